@@ -1,0 +1,4 @@
+pub mod Shares
+pub mod Limits
+pub mod Decay
+pub mod Moisture
