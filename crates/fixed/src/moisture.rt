@@ -33,9 +33,7 @@ impl Shape {
         ensures { λ r. ⌜ r .millionths ≡ moistureAt (x .millionths) (now (self .entry) .c1) (now (self .entry) .c2) ⌝ }
     {
         if x.millionths == 0 {
-            return Share {
-                millionths: 0,
-            };
+            return Share { millionths: 0 };
         }
         let a = self.exponent(x.millionths);
         let e = decay(a.unsigned_abs()) / 1000;

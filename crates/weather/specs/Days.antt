@@ -36,11 +36,11 @@ pub record Possible (f : Figures) : Type 0 where
 -- the refusal of the first figure outside; a lowest above the highest is a fault of the lowest
 abbrev pub dayFault : ℤ → ℤ → ℤ → ℤ → ℤ → Option Refusal
 dayFault date rain highest lowest demand = first (
-  (outside (pos 1) (pos 365) date, refuse 11 1) ∷
-  (outside (pos 0) (pos 1000000) rain, refuse 11 2) ∷
-  (outside (negsuc 5999) (pos 6000) highest, refuse 11 3) ∷
-  (outside (negsuc 5999) highest lowest, refuse 11 4) ∷
-  (outside (pos 0) (pos 50000) demand, refuse 11 5) ∷ [])
+    (outside (pos 1) (pos 365) date, refuse 11 1) ∷
+    (outside (pos 0) (pos 1000000) rain, refuse 11 2) ∷
+    (outside (negsuc 5999) (pos 6000) highest, refuse 11 3) ∷
+    (outside (negsuc 5999) highest lowest, refuse 11 4) ∷
+    (outside (pos 0) (pos 50000) demand, refuse 11 5) ∷ [])
 
 -- a day made of these figures, or the refusal
 abbrev pub DayMade : ℤ → ℤ → ℤ → ℤ → ℤ → Result Day DayFault → Type 0
