@@ -9,7 +9,7 @@ use Rattle.std.specs.declared.option.Option.{Option}
 use Rattle.std.specs.declared.option.Option.the-variants.{Some, None}
 
 -- z is under the least or over the greatest
-abbrev pub outside : ℤ → ℤ → ℤ → Bool
+unfoldable pub outside : ℤ → ℤ → ℤ → Bool
 outside least greatest z = ltZ z least || ltZ greatest z
 
 -- the first of several tests that holds, by what it tells

@@ -1,0 +1,52 @@
+// A snowpack is a store, and has one outcome where the store below has.
+use crate::snowpack::Snowpack;
+use refusals::store::Overfull;
+use stores::determined::Determined;
+use stores::flows::Flows;
+use stores::store::LIMIT;
+use stores::store::Store;
+use weather::day::Day;
+ghost use Prim.Native.Nat.{_+_};
+ghost use Rattle.snow.specs.Snowpack.{SnowpackTurn, snowpackGives};
+
+pub impl<L: Store> Store for Snowpack<L> as SnowpackStore {
+    ghost water = { λ s. s .pack .water + L·Store .water (s .lower) };
+
+    ghost root = { λ s. L·Store .root (s .lower) };
+
+    ghost turns = { λ s i d w t f. SnowpackTurn (L·Store .turns) (s .pack) (s .lower) i d w (t .pack) (t .lower) f };
+
+    fn turn(&mut self, inflow: u32, demand: u32, day: &Day) -> Result<Flows, Overfull> {
+        let lower = self.lower.water()?;
+        if self.pack.water as u64 + lower as u64 + inflow as u64 > LIMIT as u64 {
+            return Err(Overfull);
+        }
+        let mut pack = self.pack;
+        let passed = pack.turn(inflow, demand, day);
+        let below = self.lower.turn(passed.below, demand - passed.vapour, day)?;
+        self.pack = pack;
+        Ok(Flows {
+            side: below.side,
+            vapour: passed.vapour + below.vapour,
+            deep: below.deep,
+        })
+    }
+
+    fn water(&self) -> Result<u32, Overfull> {
+        let lower = self.lower.water()?;
+        let all = self.pack.water + lower;
+        if all > LIMIT {
+            return Err(Overfull);
+        }
+        Ok(all)
+    }
+
+    fn root_water(&self) -> Result<u32, Overfull> {
+        let _within = self.water()?;
+        self.lower.root_water()
+    }
+}
+
+pub impl<L: Determined> Determined for Snowpack<L> as SnowpackDetermined {
+    ghost gives = { λ s i d w. snowpackGives (L·Determined .gives) (s .pack) (s .lower) i d w };
+}
