@@ -1,0 +1,3 @@
+pub mod Warm
+pub mod Melt
+pub mod Same

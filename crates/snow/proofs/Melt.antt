@@ -1,0 +1,78 @@
+-- What melts, by the code's tests. Assumes nothing.
+use mathlib.Core.Path.{_≡_, refl, sym, ap, _∙_}
+use mathlib.Core.Bool.{Bool, true, false, cond, _&&_}
+use Prim.Native.Nat.{ℕ, _+_, _*_, _/_, _≤_, _<_, min, _^_}
+use native.Mathlib.Omega.{arith}
+use lib.IntN.{ℤ, pos, negsuc, natAbs}
+use lib.Signed.{leZ, ltZ, _≤ℤ_}
+use lib.Dec.{leb, ltb}
+use mir.Syntax.{w32}
+use mir.Val.{SFits, Fits, toZ, ofZ}
+use borrow.Author.Differences.{le-out}
+use Rattle.std.proofs.shelf.Signed.{ints, toZ-ofZ}
+use Rattle.std.proofs.shelf.Ways.{tells}
+use Rattle.std.proofs.shelf.Bits.{mul-le}
+use Rattle.weather.specs.declared.day.Day.{Day}
+use Rattle.weather.proofs.Mild.{Small, small-from}
+use Rattle.snow.specs.declared.pack.Pack.{Pack}
+use Rattle.snow.specs.declared.pack_turn.Passed.{Passed}
+use Rattle.snow.specs.Pack.{PackTurn, meltAt, heatAt, snowOf, snows, lyingOf, warmedTo}
+
+-- the two tests of an order are each other's denial
+pub lt-le : (a b : ℤ) → leZ a b ≡ true → ltZ b a ≡ false
+lt-le a b h = grind (arith, ints)
+
+pub lt-nle : (a b : ℤ) → leZ a b ≡ false → ltZ b a ≡ true
+lt-nle a b h = grind (arith, ints)
+
+and-false : (a : Bool) → (a && false) ≡ false
+and-false true = refl
+and-false false = refl
+
+module _ (p : Pack) (n : ℕ) (t : ℤ) (w : Day) where
+  pub melt-cold : leZ (heatAt p t w) (pos 0) ≡ true → meltAt p n t w ≡ 0
+  unfolding meltAt
+  melt-cold h = rw (lt-le (heatAt p t w) (pos 0) h)
+
+  pub melt-frost : leZ (w .highest) (pos 0) ≡ true → meltAt p n t w ≡ 0
+  unfolding meltAt
+  melt-frost h = rw (lt-le (w .highest) (pos 0) h, and-false (ltZ (pos 0) (heatAt p t w)))
+
+  pub melt-some : leZ (heatAt p t w) (pos 0) ≡ false → leZ (w .highest) (pos 0) ≡ false → meltAt p n t w ≡ min n (p .factor * natAbs (heatAt p t w) / 200)
+  unfolding meltAt
+  melt-some h k = rw (lt-nle (heatAt p t w) (pos 0) h, lt-nle (w .highest) (pos 0) k)
+
+-- a positive heat times the rate
+pub melt-fits : (r : ℕ) (h : ℤ) → r ≤ 20000 → h ≤ℤ pos 13000 → leZ h (pos 0) ≡ false → Fits w32 (r * natAbs h)
+melt-fits r (pos n) k b e = omega (arith, mul-le r n 20000 13000 k (omega (arith, le-out _ _ b)))
+melt-fits r (negsuc n) k b e = grind arith
+
+pub pack-mild : (p : Pack) → Small 6000 (p .temperature)
+pack-mild p = small-from 6000 (p .temperature) (p .cold .0) (p .cold .1)
+
+-- ---- the balance of a pack
+cond-le : (b : Bool) (x y m : ℕ) → x ≤ m → y ≤ m → cond b x y ≤ m
+cond-le true x y m h k = h
+cond-le false x y m h k = k
+
+pub melt-le : (p : Pack) (n : ℕ) (t : ℤ) (w : Day) → meltAt p n t w ≤ n
+unfolding meltAt
+melt-le p n t w = cond-le (ltZ (pos 0) (heatAt p t w) && ltZ (pos 0) (w .highest)) (min n (p .factor * natAbs (heatAt p t w) / 200)) 0 n (omega arith) (omega arith)
+
+pub snow-le : (p : Pack) (i : ℕ) (w : Day) → snowOf p i w ≤ i
+unfolding snowOf
+snow-le p i w = cond-le (snows p w) i 0 i (omega arith) (omega arith)
+
+-- `gone` is what leaves the pack below and into the air
+pub record Balance (p : Pack) (i d : ℕ) (q : Pack) (r : Passed) : Type 0 where
+  pub whole : q .water + r .below + r .vapour ≡ p .water + i
+  pub drunk : r .vapour ≤ d
+
+pub pack-balance : {p : Pack} {i d : ℕ} {w : Day} {q : Pack} {r : Passed} → PackTurn p i d w q r → Balance p i d q r
+pack-balance {p} {i} {d} {w} {q} {r} t =
+    let m = melt-le p (lyingOf p i w) (warmedTo p w) w in
+    let s = snow-le p i w in
+    record {
+      whole = omega (arith, m, s, t .below-is, t .vapour-is, t .water-is);
+      drunk = omega (arith, t .vapour-is);
+    }
