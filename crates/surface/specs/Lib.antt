@@ -1,0 +1,2 @@
+pub mod Runoff
+pub mod Surface
