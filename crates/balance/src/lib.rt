@@ -1,0 +1,3 @@
+// The water balance of one column of ground over the days of a weather source.
+pub mod balance;
+pub mod course;
