@@ -5,17 +5,17 @@ use Rattle.std.specs.declared.result.Result.{Result}
 use Rattle.std.specs.declared.result.Result.the-variants.{Ok, Err}
 use Rattle.refusals.specs.declared.day.DayFault.{DayFault}
 use Rattle.refusals.specs.declared.day.DayFault.the-variants.{DayOfYear, Rain, Highest, Lowest, Demand}
-use Rattle.refusals.specs.declared.setting.SnowpackSetting.{SnowpackSetting}
-use Rattle.refusals.specs.declared.setting.SnowpackSetting.the-variants.{SnowWater, PackTemperature, SnowfallTemperature, MeltTemperature, Lag, MeltFactor}
-use Rattle.refusals.specs.declared.setting.SurfaceSetting.{SurfaceSetting}
-use Rattle.refusals.specs.declared.setting.SurfaceSetting.the-variants.{Retention, FullWater, FirstShape, SecondShape}
-use Rattle.refusals.specs.declared.setting.LayerSetting.{LayerSetting}
-use Rattle.refusals.specs.declared.setting.LayerSetting.the-variants.{WiltingPoint, FieldCapacity, SoilWater, Percolation, Lateral, DemandShare}
-use Rattle.refusals.specs.declared.setting.AquiferSetting.{AquiferSetting}
-use Rattle.refusals.specs.declared.setting.AquiferSetting.the-variants.{GroundWater, DeepShare, FlowThreshold, FlowShare}
-use Rattle.refusals.specs.declared.setting.NormalYearSetting.{NormalYearSetting}
-use Rattle.refusals.specs.declared.setting.NormalYearSetting.the-variants.{Stations, FirstDay}
-use Rattle.refusals.specs.declared.setting.ProfileFull.{ProfileFull}
+use Rattle.refusals.specs.declared.snowpack.SnowpackSetting.{SnowpackSetting}
+use Rattle.refusals.specs.declared.snowpack.SnowpackSetting.the-variants.{SnowWater, PackTemperature, SnowfallTemperature, MeltTemperature, Lag, MeltFactor}
+use Rattle.refusals.specs.declared.surface.SurfaceSetting.{SurfaceSetting}
+use Rattle.refusals.specs.declared.surface.SurfaceSetting.the-variants.{Retention, FullWater, FirstShape, SecondShape}
+use Rattle.refusals.specs.declared.layer.LayerSetting.{LayerSetting}
+use Rattle.refusals.specs.declared.layer.LayerSetting.the-variants.{WiltingPoint, FieldCapacity, SoilWater, Percolation, Lateral, DemandShare}
+use Rattle.refusals.specs.declared.aquifer.AquiferSetting.{AquiferSetting}
+use Rattle.refusals.specs.declared.aquifer.AquiferSetting.the-variants.{GroundWater, DeepShare, FlowThreshold, FlowShare}
+use Rattle.refusals.specs.declared.normal_year.NormalYearSetting.{NormalYearSetting}
+use Rattle.refusals.specs.declared.normal_year.NormalYearSetting.the-variants.{Stations, FirstDay}
+use Rattle.refusals.specs.declared.profile.ProfileFull.{ProfileFull}
 use Rattle.refusals.specs.declared.table.HeaderCount.{HeaderCount}
 use Rattle.refusals.specs.declared.table.HeaderCount.the-variants.{StationCount, DayCount, FirstYear, FirstDate}
 use Rattle.refusals.specs.declared.table.TableFault.{TableFault}
@@ -23,10 +23,16 @@ use Rattle.refusals.specs.declared.table.TableFault.the-variants.{Length, Head
 use Rattle.refusals.specs.declared.weather.WeatherFault.{WeatherFault}
 use Rattle.refusals.specs.declared.weather.WeatherFault.the-variants.{NoStation, NoIndex, Missing, Outside}
 use Rattle.refusals.specs.declared.store.Overfull.{Overfull}
+use Rattle.refusals.specs.declared.values.Values.{Values}
+use Rattle.refusals.specs.declared.values.Values.the-variants.{One, Two}
 
 pub record Refusal : Type 0 where
   pub number : ℕ
   pub values : List ℕ
+
+abbrev pub listed : Values → List ℕ
+listed (One v) = v ∷ []
+listed (Two v w) = v ∷ w ∷ []
 
 -- a refusal with one value
 abbrev pub refuse : ℕ → ℕ → Refusal

@@ -11,7 +11,7 @@ use Rattle.std.specs.declared.result.Result.{Result}
 use Rattle.std.specs.declared.result.Result.the-variants.{Ok, Err}
 use Rattle.fixed.specs.Limits.{outside, first}
 use Rattle.refusals.specs.Refusals.{Refusal, refuse, snowpackRefusal}
-use Rattle.refusals.specs.declared.setting.SnowpackSetting.{SnowpackSetting}
+use Rattle.refusals.specs.declared.snowpack.SnowpackSetting.{SnowpackSetting}
 use Rattle.weather.specs.Days.{meanOf}
 use Rattle.weather.specs.declared.day.Day.{Day}
 use Rattle.snow.specs.declared.pack.Pack.{Pack}
@@ -20,12 +20,12 @@ use Rattle.snow.specs.declared.pack_turn.Passed.{Passed}
 -- the refusal of the first setting outside: own water, pack, snowfall and melt temperature, lag, melt rate
 abbrev pub packFault : ℤ → ℤ → ℤ → ℤ → ℤ → ℤ → Option Refusal
 packFault own pack fall melt slow rate = first (
-  (outside (pos 0) (pos 100000000) own, refuse 12 1) ∷
-  (outside (negsuc 5999) (pos 6000) pack, refuse 12 2) ∷
-  (outside (negsuc 499) (pos 500) fall, refuse 12 3) ∷
-  (outside (negsuc 499) (pos 500) melt, refuse 12 4) ∷
-  (outside (pos 0) (pos 1000) slow, refuse 12 5) ∷
-  (outside (pos 0) (pos 20000) rate, refuse 12 6) ∷ [])
+    (outside (pos 0) (pos 100000000) own, refuse 12 1) ∷
+    (outside (negsuc 5999) (pos 6000) pack, refuse 12 2) ∷
+    (outside (negsuc 499) (pos 500) fall, refuse 12 3) ∷
+    (outside (negsuc 499) (pos 500) melt, refuse 12 4) ∷
+    (outside (pos 0) (pos 1000) slow, refuse 12 5) ∷
+    (outside (pos 0) (pos 20000) rate, refuse 12 6) ∷ [])
 
 -- a pack of these settings, or the refusal
 abbrev pub PackMade : ℤ → ℤ → ℤ → ℤ → ℤ → ℤ → Result Pack SnowpackSetting → Type 0

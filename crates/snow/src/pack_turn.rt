@@ -2,7 +2,7 @@
 use crate::pack::Pack;
 use fixed::limits::integer;
 use fixed::limits::natural;
-use refusals::setting::SnowpackSetting;
+use refusals::snowpack::SnowpackSetting;
 use stores::store::LIMIT;
 use weather::day::Day;
 ghost use mathlib.Core.Path.{_≡_};

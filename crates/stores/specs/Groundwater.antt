@@ -12,7 +12,7 @@ use Rattle.std.specs.declared.result.Result.the-variants.{Ok, Err}
 use Rattle.fixed.specs.Limits.{outside, first}
 use Rattle.fixed.specs.Shares.{partOf}
 use Rattle.refusals.specs.Refusals.{Refusal, refuse, aquiferRefusal}
-use Rattle.refusals.specs.declared.setting.AquiferSetting.{AquiferSetting}
+use Rattle.refusals.specs.declared.aquifer.AquiferSetting.{AquiferSetting}
 use Rattle.stores.specs.declared.flows.Flows.{Flows}
 use Rattle.stores.specs.declared.aquifer.Aquifer.{Aquifer}
 

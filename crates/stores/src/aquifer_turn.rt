@@ -5,7 +5,7 @@ use crate::store::LIMIT;
 use crate::store::Store;
 use fixed::limits::natural;
 use fixed::share::Share;
-use refusals::setting::AquiferSetting;
+use refusals::aquifer::AquiferSetting;
 use refusals::store::Overfull;
 use weather::day::Day;
 ghost use Rattle.stores.specs.Groundwater.{AquiferMade, AquiferTurn};

@@ -13,16 +13,16 @@ use Rattle.fixed.specs.Limits.{outside, first}
 use Rattle.fixed.specs.Moisture.{moistureAt}
 use Rattle.fixed.specs.Shares.{partOf}
 use Rattle.refusals.specs.Refusals.{Refusal, refuse, surfaceRefusal}
-use Rattle.refusals.specs.declared.setting.SurfaceSetting.{SurfaceSetting}
+use Rattle.refusals.specs.declared.surface.SurfaceSetting.{SurfaceSetting}
 use Rattle.surface.specs.declared.retention.Retention.{Retention}
 
 -- the refusal of the first setting outside: Smax, full water, c1, c2
 abbrev pub retentionFault : ℤ → ℤ → ℤ → ℤ → Option Refusal
 retentionFault smax soil bend slope = first (
-  (outside (pos 0) (pos 1000000) smax, refuse 12 1) ∷
-  (outside (pos 1) (pos 100000000) soil, refuse 12 2) ∷
-  (outside (negsuc 16382) (pos 16383) bend, refuse 12 3) ∷
-  (outside (pos 0) (pos 32767) slope, refuse 12 4) ∷ [])
+    (outside (pos 0) (pos 1000000) smax, refuse 12 1) ∷
+    (outside (pos 1) (pos 100000000) soil, refuse 12 2) ∷
+    (outside (negsuc 16382) (pos 16383) bend, refuse 12 3) ∷
+    (outside (pos 0) (pos 32767) slope, refuse 12 4) ∷ [])
 
 -- the retention of these settings, or the refusal
 abbrev pub RetentionMade : ℤ → ℤ → ℤ → ℤ → Result Retention SurfaceSetting → Type 0

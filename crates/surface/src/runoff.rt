@@ -5,7 +5,7 @@ use fixed::limits::natural;
 use fixed::shape::Shape;
 use fixed::share::Share;
 use fixed::share::WHOLE;
-use refusals::setting::SurfaceSetting;
+use refusals::surface::SurfaceSetting;
 use stores::store::LIMIT;
 ghost use mathlib.Core.Path.{_≡_};
 ghost use Prim.Native.Nat.{_≤_};
