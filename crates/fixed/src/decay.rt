@@ -6,6 +6,9 @@ ghost use Rattle.fixed.specs.Decay.{decayAt, decayBit};
 // One, in thousand-millionths.
 const ONE: u32 = 1_000_000_000;
 
+// From here on nothing is left.
+const END: u32 = 16384;
+
 // exp(-2^n/1024) for the bits 8192 down to 1.
 const CONSTANTS: [u32; 14] = [
     335463,
@@ -42,7 +45,7 @@ pub fn decay(k: u32) -> u32
     ensures value { λ r. ⌜ r ≡ decayAt k ⌝ }
     ensures bound { λ r. ⌜ r ≤ 1000000000 ⌝ }
 {
-    if k >= 16384 {
+    if k >= END {
         return 0;
     }
     let mut e = ONE;

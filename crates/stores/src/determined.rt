@@ -30,8 +30,6 @@ pub impl Determined for Aquifer as AquiferDetermined {
 }
 
 // Two turns of one such store end alike, refused or not.
-pub fn one_outcome<S: Determined>() -> u8
+pub fn one_outcome<S: Determined>()
     ensures { λ _. ⌜ OneOutcome (S·Store .water) (S·Store .turns) ⌝ }
-{
-    0
-}
+{}

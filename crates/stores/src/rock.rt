@@ -33,6 +33,6 @@ pub impl Store for Rock as RockStore {
     }
 
     fn root_water(&self) -> Result<u32, Overfull> {
-        Ok(0)
+        self.water()
     }
 }

@@ -1,1 +1,2 @@
 pub mod Mild
+pub mod Limited

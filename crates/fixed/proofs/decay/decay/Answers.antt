@@ -11,9 +11,9 @@ use Rattle.fixed.specs.Decay.{decayAt, decayBits, decayBit, constants}
 use Rattle.fixed.proofs.Bits.{bits-more}
 use Rattle.fixed.proofs.decay.decay.Needs as need
 
-pub returns-then-k-ge16384 : need.returns-then-k-ge16384
+pub returns-then-k-ge-END : need.returns-then-k-ge-END
 unfolding decayAt
-returns-then-k-ge16384 c = record { value = grind (arith, tells); bound = omega arith }
+returns-then-k-ge-END c = record { value = grind (arith, tells); bound = omega arith }
 
 pub loop-i-again : need.loop-i-again
 loop-i-again c =

@@ -1,0 +1,4 @@
+pub mod Seeping
+pub mod Downward
+pub mod Rows
+pub mod Alike

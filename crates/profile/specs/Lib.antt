@@ -1,0 +1,4 @@
+pub mod Making
+pub mod Layers
+pub mod Soils
+pub mod Profiles

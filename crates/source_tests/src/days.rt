@@ -1,0 +1,69 @@
+// Days of weather at the limits of each figure.
+#[cfg(test)]
+mod tests {
+    use refusals::day::DayFault;
+    use refusals::day::DayRefused;
+    use refusals::refused::Refused;
+    use std::test::*;
+    use weather::day::Day;
+
+    // Figures in field order, and the field that is refused, or 0.
+    const CASES: [([i64; 5], u32); 24] = [
+        ([1, 0, 0, 0, 0], 0),
+        ([0, 0, 0, 0, 0], 1),
+        ([365, 0, 0, 0, 0], 0),
+        ([366, 0, 0, 0, 0], 1),
+        ([1, -1, 0, 0, 0], 2),
+        ([1, 1_000_000, 0, 0, 0], 0),
+        ([1, 1_000_001, 0, 0, 0], 2),
+        ([1, 0, -6_000, -6_000, 0], 0),
+        ([1, 0, -6_001, -6_001, 0], 3),
+        ([1, 0, 6_000, 0, 0], 0),
+        ([1, 0, 6_001, 0, 0], 3),
+        ([1, 0, 0, -6_000, 0], 0),
+        ([1, 0, 0, -6_001, 0], 4),
+        ([1, 0, 6_000, 6_000, 0], 0),
+        ([1, 0, 6_000, 6_001, 0], 4),
+        ([1, 0, 10, 10, 0], 0),
+        ([1, 0, 10, 11, 0], 4),
+        ([1, 0, 0, 0, -1], 5),
+        ([1, 0, 0, 0, 50_000], 0),
+        ([1, 0, 0, 0, 50_001], 5),
+        ([0, -1, 6_001, -6_001, -1], 1),
+        ([1, -1, 6_001, -6_001, -1], 2),
+        ([1, 0, 6_001, -6_001, -1], 3),
+        ([i64::MIN, i64::MAX, i64::MAX, i64::MIN, i64::MAX], 1),
+    ];
+
+    fn field(fault: DayFault) -> u32 {
+        match fault {
+            DayFault::DayOfYear => 1,
+            DayFault::Rain => 2,
+            DayFault::Highest => 3,
+            DayFault::Lowest => 4,
+            DayFault::Demand => 5,
+        }
+    }
+
+    #[test]
+    fn limits_of_a_day() -> Result<(), Fail> {
+        for (figures, refused) in CASES {
+            let [date, rain, highest, lowest, demand] = figures;
+            match Day::new(date, rain, highest, lowest, demand) {
+                Ok(day) => {
+                    check_eq(refused, 0)?;
+                    check_eq(day.date as i64, date)?;
+                    check_eq(day.rain as i64, rain)?;
+                    check_eq(day.highest as i64, highest)?;
+                    check_eq(day.lowest as i64, lowest)?;
+                    check_eq(day.demand as i64, demand)?;
+                }
+                Err(fault) => {
+                    check_eq(fault.number(), 11)?;
+                    check_eq(field(fault), refused)?;
+                }
+            }
+        }
+        Ok(())
+    }
+}

@@ -1,0 +1,4 @@
+pub mod Answered
+pub mod Months
+pub mod Places
+pub mod Skies
