@@ -34,6 +34,10 @@ abbrev pub stopNumber : Option Stop → ℕ
 stopNumber None = 0
 stopNumber (Some e) = stopRefusal e .number
 
+-- the eight numbers of a balance, in the order in which they are printed
+abbrev pub balanceNumbers : Balance → List ℕ
+balanceNumbers b = b .days ∷ b .sums .rain ∷ b .sums .side ∷ b .sums .vapour ∷ b .sums .deep ∷ b .start ∷ b .end ∷ stopNumber (b .stop) ∷ []
+
 -- an accepted day: the column takes the rain and the demand that the source means for the station and the index
 pub record Accepted {S : Type 0} (water : S → ℕ) (turns : S → ℕ → ℕ → Day → S → Flows → Type 0) (m : Meaning) (station index : ℕ) (s t : S) (d : Moved) : Type 0 where
   pub day : Day

@@ -12,8 +12,20 @@ use stores::store::Store;
 use weather::source::WeatherSource;
 ghost use mathlib.Core.Path.{_≡_};
 ghost use Prim.Native.Nat.{_≤_};
-ghost use Rattle.balance.specs.Course.{Balanced, Course, DayOf, Ends, Fitting, Going, added, stopNumber, stopped};
+ghost use Rattle.balance.specs.Course.{Balanced, Course, DayOf, Ends, Fitting, Going, added, balanceNumbers, stopNumber, stopped};
 ghost use Rattle.stores.specs.Meaning.{limit};
+
+// What each number of a balance is called where it is printed.
+pub const NAMES: [&str; 8] = [
+    "days",
+    "rain",
+    "side",
+    "vapour",
+    "deep",
+    "start",
+    "end",
+    "stop",
+];
 
 impl Balance {
     // Nothing but a stop.
@@ -44,6 +56,22 @@ impl Balance {
             Some(Stop::Weather(fault)) => fault.number(),
             Some(Stop::Store(fault)) => fault.number(),
         }
+    }
+
+    // Its numbers in the order of `NAMES`.
+    pub fn numbers(&self) -> [u64; 8]
+        ensures { λ r. ⌜ r ≡ balanceNumbers (now (self .entry)) ⌝ }
+    {
+        [
+            self.days,
+            self.sums.rain,
+            self.sums.side,
+            self.sums.vapour,
+            self.sums.deep,
+            self.start,
+            self.end,
+            self.stop_number() as u64,
+        ]
     }
 }
 

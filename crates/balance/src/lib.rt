@@ -1,3 +1,4 @@
 // The water balance of one column of ground over the days of a weather source.
 pub mod balance;
 pub mod course;
+pub mod table;

@@ -5,8 +5,8 @@ mod tests {
     use crate::answers::tests::gives;
     use refusals::day::DayFault;
     use refusals::normal_year::NormalYearRefused;
-    use refusals::refused::Refused;
     use refusals::normal_year::NormalYearSetting;
+    use refusals::refused::Refused;
     use refusals::weather::WeatherFault;
     use sources::normal_year::NormalYear;
     use sources::normal_year_source::NormalYearSource;

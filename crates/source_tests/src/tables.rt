@@ -8,9 +8,9 @@ mod tests {
     use crate::answers::tests::gives;
     use crate::answers::tests::refuses;
     use refusals::refused::Refused;
-    use refusals::table::TableRefused;
     use refusals::table::HeaderCount;
     use refusals::table::TableFault;
+    use refusals::table::TableRefused;
     use refusals::weather::WeatherFault;
     use sources::span::Span;
     use sources::table::WeatherTable;
