@@ -1,0 +1,25 @@
+// Takes one soil column through the weather table on standard input and prints its balance.
+mod loam;
+
+use balance::course::NAMES;
+use balance::table::run_table;
+use loam::loam;
+use profile::profile_turn::ProfileStore;
+use snow::snowpack_turn::SnowpackStore;
+use std::error::AnyError;
+use std::io::Read;
+use stores::aquifer_turn::AquiferStore;
+use surface::surface_turn::SurfaceStore;
+
+fn main(rt: LibcRuntime) -> Result<(), AnyError> {
+    let mut bytes = Vec::new(rt.alloc());
+    rt.stdin().read_to_end(&mut bytes)?;
+    let Some(mut column) = loam() else {
+        return Err("a setting of the column is outside its limits".into());
+    };
+    let numbers = run_table(&mut column, &bytes).numbers();
+    for (name, number) in NAMES.iter().zip(numbers.iter()) {
+        println!(rt, "{name} {number}")?;
+    }
+    Ok(())
+}
