@@ -20,9 +20,6 @@ pub record Down (ls ms : List Layer) (inflow demand : ℕ) (r : Descent) (i : �
   pub balance : layersWater (take i ms) + r .seepage + r .side + r .vapour ≡ layersWater (take i ls) + inflow
   pub drunk : r .vapour + r .demand ≤ demand
 
-pub down-start : (ls : List Layer) (inflow demand : ℕ) → Down ls ls inflow demand (entering inflow demand) 0
-down-start ls inflow demand = record { turned = tt; passed = refl; rest = refl; balance = omega arith; drunk = omega arith }
-
 turn-push : (ls ms : List Layer) (r : Descent) (l m : Layer) → LayersTurn ls r ms → LayerTurn l (throughAll ls r) m → LayersTurn (ls ++ (l ∷ [])) r (ms ++ (m ∷ []))
 turn-push [] [] r l m e t = (t, tt)
 turn-push [] (m′ ∷ ms) r l m e t = absurd e

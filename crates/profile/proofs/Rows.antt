@@ -1,5 +1,5 @@
 -- A figure summed over the layers of a soil. Assumes nothing.
-use mathlib.Core.Path.{_≡_, refl, ap, _∙_}
+use mathlib.Core.Path.{_≡_, ap, _∙_}
 use mathlib.Core.List.{List}
 use Prim.Native.Nat.{ℕ, _+_, _-_, _*_, _≤_, _<_}
 use native.Mathlib.Omega.{arith}
@@ -19,9 +19,6 @@ front k = take (k .count - 0) (k .layers .rows)
 pub record Summed (f : Layer → ℕ) (k : Soil) (i sum : ℕ) : Type 0 where
   pub sum-is : sum ≡ sumBy f (take i (front k))
   pub bound : sum ≤ i * 100000000
-
-pub summed-none : (f : Layer → ℕ) (k : Soil) → Summed f k 0 0
-summed-none f k = record { sum-is = refl; bound = omega arith }
 
 pub summed-more : (f : Layer → ℕ) (k : Soil) (i sum : ℕ) (l : Layer) → Summed f k i sum → i < length (front k) → l ≡ getD (front k) i l → f l ≤ 100000000 → Summed f k (i + 1) (sum + f l)
 summed-more f k i sum l s h e b = record { sum-is = omega (arith, s .sum-is, sumBy-more f (front k) i l h, ap f e); bound = omega (arith, s .bound) }

@@ -1,21 +1,15 @@
 -- The balance of one layer of soil. Assumes nothing.
-use mathlib.Core.Path.{_≡_, ap, _∙_}
+use mathlib.Core.Path.{_≡_}
 use Prim.Native.Nat.{ℕ, _+_, _-_, _≤_}
 use native.Mathlib.Omega.{arith}
-use Rattle.fixed.specs.Shares.{partOf, parts-le}
+use Rattle.fixed.specs.Shares.{parts-le}
 use Rattle.profile.specs.Layers.{excessOf, seepageOf, lateralOf, staysOf, vapourOf, through, LayerTurn}
 use Rattle.profile.specs.declared.layer.Layer.{Layer}
 use Rattle.profile.specs.declared.descent.Descent.{Descent}
 
 -- the two parts are at most the excess
 pub parts-within : (l : Layer) (i : ℕ) → seepageOf l i + lateralOf l i ≤ excessOf l i
-unfolding seepageOf lateralOf
 parts-within l i = parts-le (excessOf l i) (l .percolation .millionths) (l .lateral .millionths) (l .parts)
-
--- two shares of the excess, as the code takes them
-pub parts-are : (l : Layer) (i x s f : ℕ) → x ≡ excessOf l i → s ≡ partOf x (l .percolation .millionths) → f ≡ partOf x (l .lateral .millionths) → (s ≡ seepageOf l i) × (f ≡ lateralOf l i)
-unfolding seepageOf lateralOf
-parts-are l i x s f e p q = (p ∙ ap (λ (n : ℕ). partOf n (l .percolation .millionths)) e, q ∙ ap (λ (n : ℕ). partOf n (l .lateral .millionths)) e)
 
 -- what stays is no less than the wilting point
 pub stays-over : (l : Layer) (i : ℕ) → l .wilting ≤ staysOf l i
@@ -23,7 +17,6 @@ stays-over l i = omega (arith, parts-within l i, l .points .0, l .held .0)
 
 -- and what evaporates leaves that
 pub vapour-within : (l : Layer) (i d : ℕ) → vapourOf l i d ≤ staysOf l i - l .wilting
-unfolding vapourOf
 vapour-within l i d = omega arith
 
 -- nothing is lost on the way

@@ -13,11 +13,11 @@ abbrev pub excessOf : Layer → ℕ → ℕ
 excessOf l i = l .water + i - l .capacity
 
 -- the part of the excess that seeps down
-unfoldable pub seepageOf : Layer → ℕ → ℕ
+abbrev pub seepageOf : Layer → ℕ → ℕ
 seepageOf l i = partOf (excessOf l i) (l .percolation .millionths)
 
 -- the part of the same excess that flows sideways
-unfoldable pub lateralOf : Layer → ℕ → ℕ
+abbrev pub lateralOf : Layer → ℕ → ℕ
 lateralOf l i = partOf (excessOf l i) (l .lateral .millionths)
 
 -- the water that stays
@@ -25,16 +25,20 @@ abbrev pub staysOf : Layer → ℕ → ℕ
 staysOf l i = l .water + i - (seepageOf l i + lateralOf l i)
 
 -- what the layer wants of the demand that reaches it
-unfoldable pub wantOf : Layer → ℕ → ℕ
+abbrev pub wantOf : Layer → ℕ → ℕ
 wantOf l d = partOf d (l .demand .millionths)
 
 -- what a want comes to at this much water: under field capacity it is scaled
-unfoldable pub scaledWant : Layer → ℕ → ℕ → ℕ
+abbrev pub scaledWant : Layer → ℕ → ℕ → ℕ
 scaledWant l n want = cond (ltb n (l .capacity)) (want * decayAt (2560 * (l .capacity - n) / (l .capacity - l .wilting)) / 1000000000) want
 
--- at most four fifths of the water above the wilting point evaporate
-unfoldable pub vapourOf : Layer → ℕ → ℕ → ℕ
-vapourOf l i d = min (scaledWant l (staysOf l i) (wantOf l d)) (4 * (staysOf l i - l .wilting) / 5)
+-- what evaporates at this much water: at most four fifths of what lies above the wilting point
+abbrev pub vapourAt : Layer → ℕ → ℕ → ℕ
+vapourAt l n want = min (scaledWant l n want) (4 * (n - l .wilting) / 5)
+
+-- what evaporates of the water that stays
+abbrev pub vapourOf : Layer → ℕ → ℕ → ℕ
+vapourOf l i d = vapourAt l (staysOf l i) (wantOf l d)
 
 -- what goes on below a layer; the want comes off the demand unscaled
 abbrev pub through : Layer → Descent → Descent

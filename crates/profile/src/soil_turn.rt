@@ -6,8 +6,9 @@ use crate::soil::Soil;
 use fixed::share::Share;
 use refusals::profile::ProfileFull;
 ghost use mathlib.Core.Path.{_≡_};
+ghost use mathlib.Core.List.{[], _∷_, _++_};
 ghost use Prim.Native.Nat.{_+_, _≤_, _<_};
-ghost use lib.ListN.{take};
+ghost use lib.ListN.{take, set};
 ghost use Rattle.profile.specs.Soils.{RowTurn, SoilTurn, Added, soilWater, soilRoot, layersWater, descended};
 
 impl Layers {
@@ -19,11 +20,20 @@ impl Layers {
     {
         self.rows[i].turn(above)
     }
+
+    // Row i is this layer from now on.
+    fn put_row(&mut self, i: usize, layer: Layer)
+        requires { ⌜ i < 10 ⌝ }
+        ensures value { λ _. ⌜ now (self .exit) .rows ≡ set (now (self .entry) .rows) i layer ⌝ }
+        ensures front { λ _. ⌜ take (i + 1) (now (self .exit) .rows) ≡ take i (now (self .entry) .rows) ++ (layer ∷ []) ⌝ }
+    {
+        self.rows[i] = layer;
+    }
 }
 
 impl Soil {
     // No layers yet: each row holds a layer without water or shares.
-    pub fn empty() -> Soil
+    pub(crate) fn empty() -> Soil
         ensures { λ r. ⌜ r .count ≡ 0 ⌝ }
     {
         let none = Share { millionths: 0 };
@@ -42,19 +52,19 @@ impl Soil {
     }
 
     // A layer more at the bottom, unless there are ten.
-    pub fn add(&mut self, layer: Layer) -> Result<(), ProfileFull>
+    pub(crate) fn add(&mut self, layer: Layer) -> Result<(), ProfileFull>
         ensures { λ r. ⌜ Added (now (self .entry)) layer (now (self .exit)) r ⌝ }
     {
         if self.count >= 10 {
             return Err(ProfileFull);
         }
-        self.layers.rows[self.count] = layer;
+        self.layers.put_row(self.count, layer);
         self.count += 1;
         Ok(())
     }
 
     // The water of all layers.
-    pub fn water(&self) -> u64
+    pub(crate) fn water(&self) -> u64
         ensures value { λ r. ⌜ r ≡ soilWater (now (self .entry)) ⌝ }
         ensures bound { λ r. ⌜ r ≤ 1000000000 ⌝ }
     {
@@ -66,7 +76,7 @@ impl Soil {
     }
 
     // The water above the wilting points.
-    pub fn root_water(&self) -> u64
+    pub(crate) fn root_water(&self) -> u64
         ensures value { λ r. ⌜ r ≡ soilRoot (now (self .entry)) ⌝ }
         ensures bound { λ r. ⌜ r ≤ 1000000000 ⌝ }
     {

@@ -2,8 +2,8 @@
 #[cfg(test)]
 pub mod tests {
     use refusals::refused::Refused;
-    use refusals::weather::WeatherFault;
     use refusals::weather::WeatherRefused;
+    use refusals::weather::WeatherFault;
     use weather::source::WeatherSource;
 
     // The refusal has this number, and tells the station and the index that were asked.

@@ -45,24 +45,28 @@ mod tests {
         }
     }
 
+    fn holds(day: Day, figures: [i64; 5]) -> bool {
+        let [date, rain, highest, lowest, demand] = figures;
+        day.date as i64 == date
+            && day.rain as i64 == rain
+            && day.highest as i64 == highest
+            && day.lowest as i64 == lowest
+            && day.demand as i64 == demand
+    }
+
+    // The figures make their day, or this field is refused.
+    fn answers(figures: [i64; 5], refused: u32) -> bool {
+        let [date, rain, highest, lowest, demand] = figures;
+        match Day::new(date, rain, highest, lowest, demand) {
+            Ok(day) => refused == 0 && holds(day, figures),
+            Err(fault) => fault.number() == 11 && field(fault) == refused,
+        }
+    }
+
     #[test]
     fn limits_of_a_day() -> Result<(), Fail> {
         for (figures, refused) in CASES {
-            let [date, rain, highest, lowest, demand] = figures;
-            match Day::new(date, rain, highest, lowest, demand) {
-                Ok(day) => {
-                    check_eq(refused, 0)?;
-                    check_eq(day.date as i64, date)?;
-                    check_eq(day.rain as i64, rain)?;
-                    check_eq(day.highest as i64, highest)?;
-                    check_eq(day.lowest as i64, lowest)?;
-                    check_eq(day.demand as i64, demand)?;
-                }
-                Err(fault) => {
-                    check_eq(fault.number(), 11)?;
-                    check_eq(field(fault), refused)?;
-                }
-            }
+            check(answers(figures, refused)).note(refused)?;
         }
         Ok(())
     }

@@ -5,8 +5,8 @@ mod tests {
     use crate::answers::tests::gives;
     use refusals::day::DayFault;
     use refusals::normal_year::NormalYearRefused;
-    use refusals::normal_year::NormalYearSetting;
     use refusals::refused::Refused;
+    use refusals::normal_year::NormalYearSetting;
     use refusals::weather::WeatherFault;
     use sources::normal_year::NormalYear;
     use sources::normal_year_source::NormalYearSource;
@@ -113,18 +113,25 @@ mod tests {
         Ok(())
     }
 
+    // Station, index, and the number of the refusal, of 64 stations.
+    const BEYOND: [(u64, u64, u32); 5] = [
+        (64, 0, 31),
+        (63, 36_500, 32),
+        (64, 36_500, 31),
+        (u64::MAX, u64::MAX, 31),
+        (0, u64::MAX, 32),
+    ];
+
     #[test]
     fn beyond() -> Result<(), Fail> {
         let Some(year) = year(64, 365) else {
             return Err(Fail::new("no year"));
         };
-        check(gives(&year, 63, 0, 365, 11))?;
-        check(gives(&year, 0, 1, 1, 0))?;
-        check(gives(&year, 63, 36_499, 364, 11))?;
-        check(denies(&year, 64, 0, 31))?;
-        check(denies(&year, 63, 36_500, 32))?;
-        check(denies(&year, 64, 36_500, 31))?;
-        check(denies(&year, u64::MAX, u64::MAX, 31))?;
-        check(matches!(year.date(36_500), Err(WeatherFault::NoIndex(0, 36_500)),))
+        check(gives(&year, 0, 1, 1, 0) && gives(&year, 63, 36_499, 364, 11))?;
+        check(matches!(year.date(36_500), Err(WeatherFault::NoIndex(0, 36_500)),))?;
+        for (station, index, number) in BEYOND {
+            check(denies(&year, station, index, number)).note(station)?;
+        }
+        Ok(())
     }
 }

@@ -8,9 +8,9 @@ mod tests {
     use crate::answers::tests::gives;
     use crate::answers::tests::refuses;
     use refusals::refused::Refused;
+    use refusals::table::TableRefused;
     use refusals::table::HeaderCount;
     use refusals::table::TableFault;
-    use refusals::table::TableRefused;
     use refusals::weather::WeatherFault;
     use sources::span::Span;
     use sources::table::WeatherTable;
@@ -92,17 +92,26 @@ mod tests {
         Ok(())
     }
 
+    // The length field, how many bytes there are, and the number and the value of the refusal.
+    const LENGTHS: [(u32, usize, u32, u64); 8] = [
+        (44, 44, 0, 0),
+        (43, 44, 21, 44),
+        (43, 43, 23, 0),
+        (20, 20, 23, 0),
+        (44, 20, 21, 20),
+        (19, 19, 21, 19),
+        (20, 21, 21, 21),
+        (0, 0, 21, 0),
+    ];
+
     #[test]
     fn lengths() -> Result<(), Fail> {
-        let mut bytes = [0; 44];
-        put_header(&mut bytes, [2, 1, 2000, 100], 43);
-        check(opens(&bytes, 21, 44))?;
-        check(opens(&bytes[0..43], 23, 0))?;
-        put_header(&mut bytes, [1, 1, 2000, 100], 20);
-        check(opens(&bytes[0..20], 23, 0))?;
-        check(opens(&bytes[0..19], 21, 19))?;
-        check(opens(&bytes[0..21], 21, 21))?;
-        check(opens(&bytes[0..0], 21, 0))
+        for (size, count, number, value) in LENGTHS {
+            let mut bytes = [0; 44];
+            put_header(&mut bytes, [2, 1, 2000, 100], size);
+            check(opens(&bytes[0..count.min(44)], number, value)).note(count)?;
+        }
+        Ok(())
     }
 
     // A record in field order.
@@ -206,11 +215,9 @@ mod tests {
         };
         let table = WeatherTable { bytes, span };
         check(table.stations() == 2 && table.days() == 2)?;
-        check(matches!(table.date(0), Ok(365)))?;
-        check(matches!(table.date(1), Ok(1)))?;
+        check(matches!(table.date(0), Ok(365)) && matches!(table.date(1), Ok(1)))?;
         check(matches!(table.date(2), Err(WeatherFault::NoIndex(0, 2))))?;
-        check(gives(&table, 0, 0, 365, 5_000))?;
-        check(gives(&table, 1, 1, 1, 5_000))?;
+        check(gives(&table, 0, 0, 365, 5_000) && gives(&table, 1, 1, 1, 5_000))?;
         for (station, index, number) in QUESTIONS {
             check(denies(&table, station, index, number)).note(station)?;
         }

@@ -1,6 +1,6 @@
 // Years of 365 days. Nothing else knows how dates follow one another.
 ghost use mathlib.Core.Path.{_≡_};
-ghost use Prim.Native.Nat.{_≤_, _<_};
+ghost use Prim.Native.Nat.{_<_};
 ghost use Rattle.sources.specs.Calendar.{dateAt, monthOf};
 
 // The last day of each month but December.
@@ -8,8 +8,7 @@ const MONTH_ENDS: [u16; 11] = [31, 59, 90, 120, 151, 181, 212, 243, 273, 304, 33
 
 // The day of the year of an index, where index 0 is the first.
 pub fn date_at(first: u16, index: u64) -> u16
-    ensures value { λ r. ⌜ r ≡ dateAt first index ⌝ }
-    ensures bound { λ r. ⌜ 1 ≤ r ⌝ ∗ ⌜ r ≤ 365 ⌝ }
+    ensures { λ r. ⌜ r ≡ dateAt first index ⌝ }
 {
     ((first.saturating_sub(1) as u64 + index % 365) % 365 + 1) as u16
 }

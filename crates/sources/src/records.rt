@@ -35,13 +35,8 @@ pub(crate) fn record_of(block: &[u8], index: usize) -> &[u8]
     &block[start..start + 12]
 }
 
-// The weather that a record holds of a date, for a station and an index.
-pub(crate) fn weather(
-    bytes: &[u8],
-    date: u16,
-    station: u64,
-    index: u64,
-) -> Result<Day, WeatherFault>
+// The day of weather that a record holds, of a date, for a station and an index.
+pub(crate) fn day_of(bytes: &[u8], date: u16, station: u64, index: u64) -> Result<Day, WeatherFault>
     requires { ⌜ length (now bytes) ≡ 12 ⌝ }
     ensures { λ r. ⌜ told figures weatherRefusal r ≡ seen station index (skyAt date (now (bytes .entry)) 0) ⌝ }
 {

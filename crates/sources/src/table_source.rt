@@ -1,6 +1,6 @@
 // A weather table as a source of weather.
+use crate::records::day_of;
 use crate::records::record_of;
-use crate::records::weather;
 use crate::table::WeatherTable;
 use refusals::weather::WeatherFault;
 use weather::day::Day;
@@ -25,6 +25,6 @@ pub impl<'a> WeatherSource for WeatherTable<'a> as TableSource {
     fn day(&self, station: u64, index: u64) -> Result<Day, WeatherFault> {
         let date = self.span.place(station, index)?;
         let block = self.block(station as usize);
-        weather(record_of(block, index as usize), date, station, index)
+        day_of(record_of(block, index as usize), date, station, index)
     }
 }

@@ -4,4 +4,4 @@ use Rattle.sources.proofs.calendar.date_at.Needs as need
 
 pub returns : need.returns
 unfolding dateAt
-returns c = record { value = omega (arith, c .saturating-sub .ensures); bound = (omega arith, omega arith) }
+returns c = omega (arith, c .saturating-sub .ensures)

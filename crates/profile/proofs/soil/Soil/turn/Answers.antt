@@ -1,13 +1,10 @@
-use mathlib.Core.Path.{_≡_, refl, ap, subst}
+use mathlib.Core.Path.{_≡_, ap, subst}
 use Prim.Native.Nat.{ℕ}
 use native.Mathlib.Omega.{arith}
 use lib.ListN.{take}
 use Rattle.profile.specs.Soils.{layersWater}
-use Rattle.profile.proofs.Downward.{Down, down-start, down-room, down-more}
+use Rattle.profile.proofs.Downward.{Down, down-room, down-more}
 use Rattle.profile.proofs.soil.Soil.turn.Needs as need
-
-pub loop-i-holds : need.loop-i-holds
-loop-i-holds c = (refl, down-start (c .args .self .now .layers .rows) (c .args .inflow) (c .args .demand))
 
 pub turn-row-descent-requires : need.turn-row-descent-requires
 turn-row-descent-requires c κs =

@@ -7,7 +7,7 @@ use Rattle.std.specs.declared.result.Result.the-variants.{Ok, Err}
 use Rattle.weather.specs.Meaning.{seen}
 use Rattle.sources.specs.Records.{figuresAt}
 use Rattle.sources.proofs.Skies.{handed, sky-missing, sky-known, sky-outside}
-use Rattle.sources.proofs.records.weather.Needs as need
+use Rattle.sources.proofs.records.day_of.Needs as need
 
 pub returns-then-rain : need.returns-then-rain
 returns-then-rain c =
