@@ -4,5 +4,4 @@ ghost use Rattle.figures.specs.Worked.{WorkedFigures};
 // Every worked figure holds.
 pub fn hand_figures()
     ensures { λ _. ⌜ WorkedFigures ⌝ }
-{
-}
+{}

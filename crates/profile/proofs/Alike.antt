@@ -53,8 +53,8 @@ soil-single {k} {i} {d} a b x y =
     let n = k .count in
     let xs = a .layers .rows in
     let ys = b .layers .rows in
-    let front : take n xs ≡ take n ys =
-    ap (λ (m : ℕ). take m xs) (sym (x .same-count)) ∙ layers-single (layersOf k) (entering i d) (layersOf a) (layersOf b) (x .turned) (y .turned) ∙ ap (λ (m : ℕ). take m ys) (y .same-count) in
+    let turned = layers-single (layersOf k) (entering i d) (layersOf a) (layersOf b) (x .turned) (y .turned) in
+    let front : take n xs ≡ take n ys = ap (λ (m : ℕ). take m xs) (sym (x .same-count)) ∙ turned ∙ ap (λ (m : ℕ). take m ys) (y .same-count) in
     let back : drop n xs ≡ drop n ys = x .same-rest ∙ sym (y .same-rest) in
     let all : xs ≡ ys = sym (take-append-drop n xs) ∙ (λ j. front j ++ back j) ∙ take-append-drop n ys in
     soil-same a b all (x .same-count ∙ sym (y .same-count))

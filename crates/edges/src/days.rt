@@ -1,14 +1,13 @@
 // Days of weather at the limits of each figure.
 #[cfg(test)]
 mod tests {
-    use refusals::day::DayFault;
+    use crate::answers::tests::refuses;
     use refusals::day::DayRefused;
-    use refusals::refused::Refused;
     use std::test::*;
     use weather::day::Day;
 
     // Figures in field order, and the field that is refused, or 0.
-    const CASES: [([i64; 5], u32); 24] = [
+    const CASES: [([i64; 5], u64); 24] = [
         ([1, 0, 0, 0, 0], 0),
         ([0, 0, 0, 0, 0], 1),
         ([365, 0, 0, 0, 0], 0),
@@ -35,16 +34,6 @@ mod tests {
         ([i64::MIN, i64::MAX, i64::MAX, i64::MIN, i64::MAX], 1),
     ];
 
-    fn field(fault: DayFault) -> u32 {
-        match fault {
-            DayFault::DayOfYear => 1,
-            DayFault::Rain => 2,
-            DayFault::Highest => 3,
-            DayFault::Lowest => 4,
-            DayFault::Demand => 5,
-        }
-    }
-
     fn holds(day: Day, figures: [i64; 5]) -> bool {
         let [date, rain, highest, lowest, demand] = figures;
         day.date as i64 == date
@@ -55,11 +44,11 @@ mod tests {
     }
 
     // The figures make their day, or this field is refused.
-    fn answers(figures: [i64; 5], refused: u32) -> bool {
+    fn answers(figures: [i64; 5], refused: u64) -> bool {
         let [date, rain, highest, lowest, demand] = figures;
         match Day::new(date, rain, highest, lowest, demand) {
             Ok(day) => refused == 0 && holds(day, figures),
-            Err(fault) => fault.number() == 11 && field(fault) == refused,
+            Err(fault) => refuses(&fault, 11, refused),
         }
     }
 

@@ -3,10 +3,9 @@
 mod tests {
     use crate::answers::tests::denies;
     use crate::answers::tests::gives;
+    use crate::answers::tests::settles;
     use refusals::day::DayFault;
     use refusals::normal_year::NormalYearRefused;
-    use refusals::refused::Refused;
-    use refusals::normal_year::NormalYearSetting;
     use refusals::weather::WeatherFault;
     use sources::normal_year::NormalYear;
     use sources::normal_year_source::NormalYearSource;
@@ -15,7 +14,7 @@ mod tests {
     use weather::source::WeatherSource;
 
     // Stations, first day of the year, and the setting that is refused, or 0.
-    const SETTINGS: [(i64, i64, u32); 10] = [
+    const SETTINGS: [(i64, i64, u64); 10] = [
         (1, 1, 0),
         (64, 365, 0),
         (0, 1, 1),
@@ -68,27 +67,13 @@ mod tests {
         Ok(months)
     }
 
-    fn field(setting: NormalYearSetting) -> u32 {
-        match setting {
-            NormalYearSetting::Stations => 1,
-            NormalYearSetting::FirstDay => 2,
-        }
-    }
-
-    fn settles(made: Result<NormalYear, NormalYearSetting>, refused: u32) -> bool {
-        match made {
-            Ok(_) => refused == 0,
-            Err(setting) => setting.number() == 12 && field(setting) == refused,
-        }
-    }
-
     #[test]
     fn settings() -> Result<(), Fail> {
         let Ok(months) = months() else {
             return Err(Fail::new("no months"));
         };
         for (stations, first, refused) in SETTINGS {
-            check(settles(NormalYear::new(months, stations, first), refused)).note(refused)?;
+            check(settles(&NormalYear::new(months, stations, first), 12, refused)).note(refused)?;
         }
         Ok(())
     }

@@ -7,11 +7,10 @@ mod tests {
     use crate::answers::tests::denies;
     use crate::answers::tests::gives;
     use crate::answers::tests::refuses;
-    use refusals::refused::Refused;
+    use crate::answers::tests::refuses_at;
     use refusals::table::TableRefused;
-    use refusals::table::HeaderCount;
-    use refusals::table::TableFault;
     use refusals::weather::WeatherFault;
+    use refusals::weather::WeatherRefused;
     use sources::span::Span;
     use sources::table::WeatherTable;
     use sources::table_source::TableSource;
@@ -67,18 +66,7 @@ mod tests {
     fn opens(bytes: &[u8], number: u32, value: u64) -> bool {
         match Span::read(bytes) {
             Ok(_) => number == 0,
-            Err(fault) => fault.number() == number && told(fault) == value,
-        }
-    }
-
-    fn told(fault: TableFault) -> u64 {
-        match fault {
-            TableFault::Length(count) => count,
-            TableFault::Header(HeaderCount::StationCount) => 1,
-            TableFault::Header(HeaderCount::DayCount) => 2,
-            TableFault::Header(HeaderCount::FirstYear) => 3,
-            TableFault::Header(HeaderCount::FirstDate) => 4,
-            TableFault::Size => 0,
+            Err(fault) => refuses(&fault, number, value),
         }
     }
 
@@ -183,7 +171,7 @@ mod tests {
         };
         match (WeatherTable { bytes, span }).day(0, 0) {
             Ok(day) => number == 0 && holds(day, 365, record),
-            Err(fault) => refuses(fault, number, 0, 0),
+            Err(fault) => refuses_at(&fault, number, 0, 0),
         }
     }
 
