@@ -18,6 +18,10 @@ abbrev pub decayBits : ℕ → List ℕ → ℕ → ℕ
 decayBits k [] e = e
 decayBits k (c ∷ cs) e = decayBits k cs (decayBit k (length cs) c e)
 
+-- the curve below 16,384: all bits, from 1
+unfoldable pub decayBelow : ℕ → ℕ
+decayBelow k = decayBits k constants 1000000000
+
 -- nothing is left from 16,384 on
-unfoldable pub decayAt : ℕ → ℕ
-decayAt k = cond (ltb k 16384) (decayBits k constants 1000000000) 0
+abbrev pub decayAt : ℕ → ℕ
+decayAt k = cond (ltb k 16384) (decayBelow k) 0

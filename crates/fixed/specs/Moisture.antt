@@ -14,6 +14,10 @@ exponentAt x c1 c2 = c1 -ℤ pos (c2 * x / 1000000)
 unfoldable pub moistureBy : ℕ → ℤ → ℕ → ℕ
 moistureBy x a e = cond (leZ (pos 0) a) (1000000 * x * e / (x * e + 1000000000000)) (1000000 * x / (x + e))
 
+-- the curve above x = 0
+unfoldable pub moistureAbove : ℕ → ℤ → ℕ → ℕ
+moistureAbove x c1 c2 = moistureBy x (exponentAt x c1 c2) (decayAt (natAbs (exponentAt x c1 c2)) / 1000)
+
 -- nothing at x = 0
-unfoldable pub moistureAt : ℕ → ℤ → ℕ → ℕ
-moistureAt x c1 c2 = cond (eqb x 0) 0 (moistureBy x (exponentAt x c1 c2) (decayAt (natAbs (exponentAt x c1 c2)) / 1000))
+abbrev pub moistureAt : ℕ → ℤ → ℕ → ℕ
+moistureAt x c1 c2 = cond (eqb x 0) 0 (moistureAbove x c1 c2)

@@ -1,7 +1,7 @@
 // The curve exp(-k/1024).
 ghost use mathlib.Core.Path.{_≡_};
 ghost use Prim.Native.Nat.{_≤_, _<_};
-ghost use Rattle.fixed.specs.Decay.{decayAt, decayBit};
+ghost use Rattle.fixed.specs.Decay.{decayAt, decayBelow, decayBit};
 
 // One, in thousand-millionths.
 const ONE: u32 = 1_000_000_000;
@@ -40,17 +40,22 @@ fn decay_bit(k: u32, place: u32, constant: u32, e: u32) -> u32
     }
 }
 
-// exp(-k/1024) in thousand-millionths.
-pub fn decay(k: u32) -> u32
-    ensures value { λ r. ⌜ r ≡ decayAt k ⌝ }
+// exp(-k/1024) in thousand-millionths, bit by bit from the highest.
+fn decay_below(k: u32) -> u32
+    ensures value { λ r. ⌜ r ≡ decayBelow k ⌝ }
     ensures bound { λ r. ⌜ r ≤ 1000000000 ⌝ }
 {
-    if k >= END {
-        return 0;
-    }
     let mut e = ONE;
     for i in 0..14 {
         e = decay_bit(k, 13 - i as u32, CONSTANTS[i], e);
     }
     e
+}
+
+// exp(-k/1024) in thousand-millionths.
+pub fn decay(k: u32) -> u32
+    ensures value { λ r. ⌜ r ≡ decayAt k ⌝ }
+    ensures bound { λ r. ⌜ r ≤ 1000000000 ⌝ }
+{
+    if k < END { decay_below(k) } else { 0 }
 }

@@ -4,7 +4,7 @@ use crate::shape::Shape;
 use crate::share::Share;
 ghost use mathlib.Core.Path.{_≡_};
 ghost use Prim.Native.Nat.{_≤_, _<_};
-ghost use Rattle.fixed.specs.Moisture.{exponentAt, moistureBy, moistureAt};
+ghost use Rattle.fixed.specs.Moisture.{exponentAt, moistureBy, moistureAbove, moistureAt};
 
 // The curve at a moisture x above 0 and the exponent a, where e is exp(-|a|) in millionths.
 fn moisture_by(x: u32, a: i32, e: u32) -> u32
@@ -28,17 +28,26 @@ impl Shape {
         self.c1 - (self.c2 as u64 * x as u64 / 1_000_000) as i32
     }
 
-    // The curve at a moisture.
+    // The curve at a moisture above 0.
+    fn above(&self, x: u32) -> u32
+        requires { ⌜ 0 < x ⌝ ∗ ⌜ x ≤ 1000000 ⌝ }
+        ensures value { λ r. ⌜ r ≡ moistureAbove x (now (self .entry) .c1) (now (self .entry) .c2) ⌝ }
+        ensures bound { λ r. ⌜ r ≤ 1000000 ⌝ }
+    {
+        let a = self.exponent(x);
+        let e = decay(a.unsigned_abs()) / 1000;
+        moisture_by(x, a, e)
+    }
+
+    // The curve at a moisture: nothing at 0.
     pub fn moisture(&self, x: Share) -> Share
         ensures { λ r. ⌜ r .millionths ≡ moistureAt (x .millionths) (now (self .entry) .c1) (now (self .entry) .c2) ⌝ }
     {
         if x.millionths == 0 {
-            return Share { millionths: 0 };
+            return x;
         }
-        let a = self.exponent(x.millionths);
-        let e = decay(a.unsigned_abs()) / 1000;
         Share {
-            millionths: moisture_by(x.millionths, a, e),
+            millionths: self.above(x.millionths),
         }
     }
 }

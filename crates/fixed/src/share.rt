@@ -28,9 +28,18 @@ impl Share {
         ensures value { λ r. ⌜ r ≡ partOf amount (self .millionths) ⌝ }
         ensures bound { λ r. ⌜ r ≤ amount ⌝ }
     {
-        match amount.checked_mul(self.millionths as u64) {
-            Some(product) => product / WHOLE as u64,
-            None => (amount as u128 * self.millionths as u128 / WHOLE as u128) as u64,
-        }
+        part(amount, self.millionths)
+    }
+}
+
+// So many millionths of an amount; where the product passes 64 bits it is formed in 128.
+fn part(amount: u64, share: u32) -> u64
+    requires { ⌜ share ≤ 1000000 ⌝ }
+    ensures value { λ r. ⌜ r ≡ partOf amount share ⌝ }
+    ensures bound { λ r. ⌜ r ≤ amount ⌝ }
+{
+    match amount.checked_mul(share as u64) {
+        Some(product) => product / WHOLE as u64,
+        None => (amount as u128 * share as u128 / WHOLE as u128) as u64,
     }
 }

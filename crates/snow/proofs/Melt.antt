@@ -15,8 +15,7 @@ use Rattle.std.proofs.shelf.Bits.{mul-le}
 use Rattle.weather.specs.declared.day.Day.{Day}
 use Rattle.weather.proofs.Mild.{Small, small-from}
 use Rattle.snow.specs.declared.pack.Pack.{Pack}
-use Rattle.snow.specs.declared.pack_turn.Passed.{Passed}
-use Rattle.snow.specs.Pack.{PackTurn, meltAt, heatAt, snowOf, snows, lyingOf, warmedTo}
+use Rattle.snow.specs.Pack.{meltAt, heatAt}
 
 -- the two tests of an order are each other's denial
 pub lt-le : (a b : ℤ) → leZ a b ≡ true → ltZ b a ≡ false
@@ -49,30 +48,3 @@ melt-fits r (negsuc n) k b e = grind arith
 
 pub pack-mild : (p : Pack) → Small 6000 (p .temperature)
 pack-mild p = small-from 6000 (p .temperature) (p .cold .0) (p .cold .1)
-
--- ---- the balance of a pack
-cond-le : (b : Bool) (x y m : ℕ) → x ≤ m → y ≤ m → cond b x y ≤ m
-cond-le true x y m h k = h
-cond-le false x y m h k = k
-
-pub melt-le : (p : Pack) (n : ℕ) (t : ℤ) (w : Day) → meltAt p n t w ≤ n
-unfolding meltAt
-melt-le p n t w = cond-le (ltZ (pos 0) (heatAt p t w) && ltZ (pos 0) (w .highest)) (min n (p .factor * natAbs (heatAt p t w) / 200)) 0 n (omega arith) (omega arith)
-
-pub snow-le : (p : Pack) (i : ℕ) (w : Day) → snowOf p i w ≤ i
-unfolding snowOf
-snow-le p i w = cond-le (snows p w) i 0 i (omega arith) (omega arith)
-
--- `gone` is what leaves the pack below and into the air
-pub record Balance (p : Pack) (i d : ℕ) (q : Pack) (r : Passed) : Type 0 where
-  pub whole : q .water + r .below + r .vapour ≡ p .water + i
-  pub drunk : r .vapour ≤ d
-
-pub pack-balance : {p : Pack} {i d : ℕ} {w : Day} {q : Pack} {r : Passed} → PackTurn p i d w q r → Balance p i d q r
-pack-balance {p} {i} {d} {w} {q} {r} t =
-    let m = melt-le p (lyingOf p i w) (warmedTo p w) w in
-    let s = snow-le p i w in
-    record {
-      whole = omega (arith, m, s, t .below-is, t .vapour-is, t .water-is);
-      drunk = omega (arith, t .vapour-is);
-    }

@@ -9,7 +9,7 @@ use Rattle.weather.specs.declared.day.Day.{Day}
 use Rattle.snow.specs.declared.pack.Pack.{Pack}
 use Rattle.snow.specs.declared.pack_turn.Passed.{Passed}
 use Rattle.stores.specs.declared.flows.Flows.{Flows}
-use Rattle.snow.specs.Pack.{PackTurn}
+use Rattle.snow.specs.Pack.{PackTurn, passesOf, driesOf}
 use Rattle.snow.specs.Snowpack.{SnowpackTurn, snowpackGives}
 use Rattle.stores.specs.Outcome.{Single, Given}
 use Rattle.stores.proofs.Same.{le-at, flows-same}
@@ -36,13 +36,10 @@ pack-same p q n t s m l r j = record {
   paced = le-at r refl (p .paced) (q .paced) j;
 }
 
-passed-same : (a b : Passed) → a .below ≡ b .below → a .vapour ≡ b .vapour → a ≡ b
+pub passed-same : (a b : Passed) → a .below ≡ b .below → a .vapour ≡ b .vapour → a ≡ b
 passed-same a b s v j = record { below = s j; vapour = v j }
 
-turn-passes : {p : Pack} {i d : ℕ} {w : Day} {q r : Pack} {a b : Passed} → PackTurn p i d w q a → PackTurn p i d w r b → a ≡ b
-turn-passes {a = a} {b = b} x y = passed-same a b (x .below-is ∙ sym (y .below-is)) (x .vapour-is ∙ sym (y .vapour-is))
-
-turn-same : {p : Pack} {i d : ℕ} {w : Day} {q r : Pack} {a b : Passed} → PackTurn p i d w q a → PackTurn p i d w r b → q ≡ r
+turn-same : {p : Pack} {i d : ℕ} {w : Day} {q r : Pack} → PackTurn p i d w q → PackTurn p i d w r → q ≡ r
 turn-same {q = q} {r = r} x y = pack-same q r
     (x .water-is ∙ sym (y .water-is))
     (x .temperature-is ∙ sym (y .temperature-is))
@@ -55,15 +52,11 @@ turn-same {q = q} {r = r} x y = pack-same q r
 module _ {L : Type 0} (turns : L → ℕ → ℕ → Day → L → Flows → Type 0) (single : Single turns) where
   pub snow-single : {p : Pack} {l : L} {i d : ℕ} {w : Day} (q r : Pack) (m n : L) (f e : Flows) → SnowpackTurn turns p l i d w q m f → SnowpackTurn turns p l i d w r n e → (q ≡ r) × (m ≡ n) × (f ≡ e)
   snow-single {p} {l} {i} {d} {w} q r m n f e x y =
-      let pass = turn-passes (x .pack-turn) (y .pack-turn) in
-      let z : turns l (x .passed .below) (d - x .passed .vapour) w n (y .below) = subst (λ (a : Passed). turns l (a .below) (d - a .vapour) w n (y .below)) (sym pass) (y .lower-turn) in
-      let both = single l (x .passed .below) (d - x .passed .vapour) w m n (x .below) (y .below) (x .lower-turn) z in
-      (turn-same (x .pack-turn) (y .pack-turn), both .0, flows-same f e (cc (x .side-is, y .side-is, both .1)) (cc (x .vapour-is, y .vapour-is, both .1, pass)) (cc (x .deep-is, y .deep-is, both .1)))
+      let both = single l (passesOf p i w) (d - driesOf p i d w) w m n (x .below) (y .below) (x .lower-turn) (y .lower-turn) in
+      (turn-same (x .pack-turn) (y .pack-turn), both .0, flows-same f e (cc (x .side-is, y .side-is, both .1)) (cc (x .vapour-is, y .vapour-is, both .1)) (cc (x .deep-is, y .deep-is, both .1)))
 
 module _ {L : Type 0} (turns : L → ℕ → ℕ → Day → L → Flows → Type 0) (gives : L → ℕ → ℕ → Day → Flows) (given : Given turns gives) where
   pub snow-given : {p : Pack} {l : L} {i d : ℕ} {w : Day} (q : Pack) (m : L) (f : Flows) → SnowpackTurn turns p l i d w q m f → f ≡ snowpackGives gives p l i d w
   snow-given {p} {l} {i} {d} {w} q m f x =
-      let pass = x .pack-turn .below-is in
-      let dry = x .pack-turn .vapour-is in
-      let g = given l (x .passed .below) (d - x .passed .vapour) w m (x .below) (x .lower-turn) ∙ (λ j. gives l (pass j) (d - dry j) w) in
-      flows-same f (snowpackGives gives p l i d w) (cc (x .side-is, g)) (cc (x .vapour-is, dry, g)) (cc (x .deep-is, g))
+      let g = given l (passesOf p i w) (d - driesOf p i d w) w m (x .below) (x .lower-turn) in
+      flows-same f (snowpackGives gives p l i d w) (cc (x .side-is, g)) (cc (x .vapour-is, g)) (cc (x .deep-is, g))

@@ -68,9 +68,12 @@ passesOf p i w = (i - snowOf p i w) + meltOf p i w
 abbrev pub driesOf : Pack → ℕ → ℕ → Day → ℕ
 driesOf p i d w = min (lyingOf p i w - meltOf p i w) d
 
-pub record PackTurn (p : Pack) (i d : ℕ) (w : Day) (q : Pack) (r : Passed) : Type 0 where
-  pub below-is : r .below ≡ passesOf p i w
-  pub vapour-is : r .vapour ≡ driesOf p i d w
+-- what a pack hands on in a day
+abbrev pub passedOf : Pack → ℕ → ℕ → Day → Passed
+passedOf p i d w = record { below = passesOf p i w; vapour = driesOf p i d w }
+
+-- a pack before and after its day
+pub record PackTurn (p : Pack) (i d : ℕ) (w : Day) (q : Pack) : Type 0 where
   pub water-is : q .water ≡ lyingOf p i w - meltOf p i w - driesOf p i d w
   pub temperature-is : q .temperature ≡ warmedTo p w
   pub same-snowfall : q .snowfall ≡ p .snowfall

@@ -5,16 +5,14 @@ use Rattle.snow.specs.Pack.{PackTurn, passesOf, driesOf}
 use Rattle.stores.specs.declared.flows.Flows.{Flows}
 use Rattle.weather.specs.declared.day.Day.{Day}
 use Rattle.snow.specs.declared.pack.Pack.{Pack}
-use Rattle.snow.specs.declared.pack_turn.Passed.{Passed}
 
--- the pack p over l becomes q over m: what the pack passes, and what the store below makes of it by its `turns`
+-- the pack p over l becomes q over m: what the pack passes goes to the store below, which makes of it what its `turns` says
 pub record SnowpackTurn {L : Type 0} (turns : L → ℕ → ℕ → Day → L → Flows → Type 0) (p : Pack) (l : L) (i d : ℕ) (w : Day) (q : Pack) (m : L) (f : Flows) : Type 0 where
-  pub passed : Passed
   pub below : Flows
-  pub pack-turn : PackTurn p i d w q passed
-  pub lower-turn : turns l (passed .below) (d - passed .vapour) w m below
+  pub pack-turn : PackTurn p i d w q
+  pub lower-turn : turns l (passesOf p i w) (d - driesOf p i d w) w m below
   pub side-is : f .side ≡ below .side
-  pub vapour-is : f .vapour ≡ passed .vapour + below .vapour
+  pub vapour-is : f .vapour ≡ driesOf p i d w + below .vapour
   pub deep-is : f .deep ≡ below .deep
 
 -- the answer of a pack over a store that answers by `lower`

@@ -9,7 +9,7 @@ ghost use mathlib.Core.Path.{_≡_};
 ghost use Prim.Native.Nat.{_+_, _≤_};
 ghost use lib.IntN.{pos, negsuc};
 ghost use lib.Signed.{_≤ℤ_};
-ghost use Rattle.snow.specs.Pack.{PackMade, PackTurn, warmedTo, heatAt, snowOf, meltAt};
+ghost use Rattle.snow.specs.Pack.{PackMade, PackTurn, passedOf, warmedTo, heatAt, snowOf, meltAt};
 
 // What a pack hands on in a day: to the store below, and to the air.
 #[derive(Clone, Copy)]
@@ -106,7 +106,10 @@ impl Pack {
     // One day of the pack.
     pub(crate) fn turn(&mut self, inflow: u32, demand: u32, day: &Day) -> Passed
         requires { ⌜ now self .water + inflow ≤ 100000000 ⌝ }
-        ensures { λ r. ⌜ PackTurn (now (self .entry)) inflow demand (now (day .entry)) (now (self .exit)) r ⌝ }
+        ensures turned { λ r. ⌜ PackTurn (now (self .entry)) inflow demand (now (day .entry)) (now (self .exit)) ⌝ }
+        ensures passed { λ r. ⌜ r ≡ passedOf (now (self .entry)) inflow demand (now (day .entry)) ⌝ }
+        ensures balance { λ r. ⌜ now (self .exit) .water + r .below + r .vapour ≡ now (self .entry) .water + inflow ⌝ }
+        ensures drunk { λ r. ⌜ r .vapour ≤ demand ⌝ }
     {
         let temperature = self.warmed(day);
         let snow = self.snowed(inflow, day);

@@ -32,9 +32,13 @@ tableFault bytes = first (
 abbrev pub Headed : List ℕ → Span → Type 0
 Headed bytes p = (wordAt bytes 0 ≡ p .stations) × (wordAt bytes 4 ≡ p .days) × (wordAt bytes 12 ≡ p .first) × (length bytes ≡ 20 + 12 * p .stations * p .days)
 
+-- the header's length field and first year are right
+abbrev pub Stamped : List ℕ → Type 0
+Stamped bytes = (wordAt bytes 16 ≡ length bytes) × (1 ≤ wordAt bytes 8) × (wordAt bytes 8 ≤ 9999)
+
 -- the span of a table of these bytes, or the refusal
 abbrev pub HeaderRead : List ℕ → Result Span TableFault → Type 0
-HeaderRead bytes (Ok p) = (tableFault bytes ≡ None) × Headed bytes p
+HeaderRead bytes (Ok p) = (tableFault bytes ≡ None) × Headed bytes p × Stamped bytes
 HeaderRead bytes (Err e) = tableFault bytes ≡ Some (tableRefusal e)
 
 -- a count of the header within 1 and its greatest, or which of them is outside

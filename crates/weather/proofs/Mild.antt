@@ -10,7 +10,6 @@ use mir.Val.{SFits}
 use borrow.Author.Differences.{up, down, product-is, sum-is, quot-is, neg-is, le-out, at-most-in, fits-in}
 use Rattle.std.proofs.shelf.Bits.{mul-le}
 use Rattle.weather.specs.declared.day.Day.{Day}
-use Rattle.weather.specs.Days.{meanOf}
 
 -- both parts of an integer are at most b
 pub record Small (b : ℕ) (a : ℤ) : Type 0 where
@@ -56,15 +55,13 @@ small-thousandth a s = record { high = omega (arith, quot-is a 1000 .0, s .high)
 pub small-fits : {b : ℕ} {a : ℤ} → b < 2 ^ 31 → Small b a → SFits w32 a
 small-fits {b} {a} h s = fits-in w32 a (omega (arith, s .high, s .low))
 
+-- a higher and a lower integer within b
+pub small-between : (b : ℕ) (h l : ℤ) → h ≤ℤ pos b → l ≤ℤ h → negℤ (pos b) ≤ℤ l → Small b h × Small b l
+small-between b h l top order bottom = (
+  small-from b h top (at-most-in (negℤ (pos b)) h (omega (arith, le-out _ _ order, le-out _ _ bottom))),
+  small-from b l (at-most-in l (pos b) (omega (arith, le-out _ _ order, le-out _ _ top))) bottom,
+)
+
 -- ---- a day's temperatures
 pub day-high : (w : Day) → Small 6000 (w .highest)
-day-high w = small-from 6000 (w .highest) (w .warm) (at-most-in (negsuc 5999) (w .highest) (omega (arith, le-out _ _ (w .warmer), le-out _ _ (w .cold))))
-
-pub day-low : (w : Day) → Small 6000 (w .lowest)
-day-low w = small-from 6000 (w .lowest) (at-most-in (w .lowest) (pos 6000) (omega (arith, le-out _ _ (w .warmer), le-out _ _ (w .warm)))) (w .cold)
-
-pub sum-mild : (w : Day) → Small 12000 (w .highest +ℤ w .lowest)
-sum-mild w = small-sum (w .highest) (w .lowest) (day-high w) (day-low w)
-
-pub mean-mild : (w : Day) → Small 6000 (meanOf w)
-mean-mild w = small-half (w .highest +ℤ w .lowest) (sum-mild w)
+day-high w = small-between 6000 (w .highest) (w .lowest) (w .warm) (w .warmer) (w .cold) .0

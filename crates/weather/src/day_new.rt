@@ -4,8 +4,8 @@ use fixed::limits::integer;
 use fixed::limits::natural;
 use refusals::day::DayFault;
 ghost use mathlib.Core.Path.{_≡_};
-ghost use lib.IntN.{pos, negsuc};
-ghost use lib.Signed.{_≤ℤ_};
+ghost use lib.IntN.{pos, negsuc, _+ℤ_};
+ghost use lib.Signed.{_≤ℤ_, quotZ};
 ghost use Rattle.weather.specs.Days.{DayMade, meanOf};
 
 impl Day {
@@ -49,6 +49,15 @@ impl Day {
         ensures value { λ r. ⌜ r ≡ meanOf (now (self .entry)) ⌝ }
         ensures bound { λ r. ⌜ r ≤ℤ pos 6000 ⌝ ∗ ⌜ negsuc 5999 ≤ℤ r ⌝ }
     {
-        (self.highest + self.lowest) / 2
+        halfway(self.highest, self.lowest)
     }
+}
+
+// Half the sum of two temperatures, cut toward zero.
+fn halfway(high: i32, low: i32) -> i32
+    requires { ⌜ high ≤ℤ pos 6000 ⌝ ∗ ⌜ low ≤ℤ high ⌝ ∗ ⌜ negsuc 5999 ≤ℤ low ⌝ }
+    ensures value { λ r. ⌜ r ≡ quotZ (high +ℤ low) (pos 2) ⌝ }
+    ensures bound { λ r. ⌜ r ≤ℤ pos 6000 ⌝ ∗ ⌜ negsuc 5999 ≤ℤ r ⌝ }
+{
+    (high + low) / 2
 }
