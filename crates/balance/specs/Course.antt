@@ -1,10 +1,8 @@
 -- A column of ground taken through the days of a weather source. Assumes nothing.
 use mathlib.Core.Path.{_≡_}
 use mathlib.Core.List.{List, [], _∷_}
-use lib.Dec.{leb}
 use lib.ListN.{length}
-use Prim.Native.Nat.{ℕ, _+_, _<_, _^_}
-use Rattle.std.specs.Orderings.{When}
+use Prim.Native.Nat.{ℕ, _+_, _≤_, _<_, _^_}
 use Rattle.std.specs.shelf.Lists.{sumBy}
 use Rattle.std.specs.declared.option.Option.{Option}
 use Rattle.std.specs.declared.option.Option.the-variants.{Some, None}
@@ -112,8 +110,9 @@ pub record NotStarted {S : Type 0} (s t : S) (b : Balance) : Type 0 where
   pub same : t ≡ s
 
 -- a balance of the column s, which becomes t: not started where the column passes its limit
-abbrev pub Course : {S : Type 0} → (S → ℕ) → (S → ℕ → ℕ → Day → S → Flows → Type 0) → Meaning → ℕ → S → S → Balance → Type 0
-Course water turns m station s t b = When (leb (water s) limit) (Ran water turns m station s t b) (NotStarted s t b)
+pub record Course {S : Type 0} (water : S → ℕ) (turns : S → ℕ → ℕ → Day → S → Flows → Type 0) (m : Meaning) (station : ℕ) (s t : S) (b : Balance) : Type 0 where
+  pub within : water s ≤ limit → Ran water turns m station s t b
+  pub beyond : limit < water s → NotStarted s t b
 
 -- no water is made or lost
 abbrev pub Balanced : Balance → Type 0

@@ -11,7 +11,7 @@ use refusals::weather::WeatherRefused;
 use stores::store::Store;
 use weather::source::WeatherSource;
 ghost use mathlib.Core.Path.{_≡_};
-ghost use Prim.Native.Nat.{_≤_};
+ghost use Prim.Native.Nat.{_+_, _≤_};
 ghost use Rattle.balance.specs.Course.{Balanced, Course, DayOf, Ends, Fitting, Going, added, balanceNumbers, stopNumber, stopped};
 ghost use Rattle.stores.specs.Meaning.{limit};
 
@@ -115,6 +115,8 @@ fn run_days<S: Store, W: WeatherSource>(column: &mut S, source: &W, station: u64
     requires { ⌜ S·Store .water (now column) ≤ limit ⌝ }
     ensures going { λ r. ⌜ Going (S·Store .water) (S·Store .turns) (W·WeatherSource .means (now (source .entry))) station (now (column .entry)) (now (column .exit)) (r .days) (r .sums) ⌝ }
     ensures ends { λ r. ⌜ Ends (S·Store .water) (W·WeatherSource .means (now (source .entry))) station (r .days) (now (column .exit)) (r .stop) ⌝ }
+    ensures balance { λ r. ⌜ S·Store .water (now (column .exit)) + r .sums .side + r .sums .vapour + r .sums .deep ≡ S·Store .water (now (column .entry)) + r .sums .rain ⌝ }
+    ensures room { λ r. ⌜ S·Store .water (now (column .exit)) ≤ limit ⌝ }
 {
     let mut sums = Sums {
         rain: 0,

@@ -1,6 +1,7 @@
-use mathlib.Core.Path.{sym}
+use mathlib.Core.Path.{ap}
+use borrow.Author.Needs.{needs}
 use native.Mathlib.Omega.{arith}
-use Rattle.balance.proofs.Conserved.{going-fits, going-more, going-none}
+use Rattle.balance.proofs.Conserved.{going-balance, going-fits, going-more, going-none, going-room}
 use Rattle.balance.proofs.course.run_days.Needs as need
 
 pub loop-index-holds : need.loop-index-holds
@@ -11,3 +12,18 @@ add-requires g c κs = going-fits (g .S·Store .water) (g .S·Store .turns) (g .
 
 pub loop-index-again : need.loop-index-again
 loop-index-again g c = rw (c .add .ensures) (going-more (g .S·Store .water) (g .S·Store .turns) (g .W·WeatherSource .means (c .args .source .now)) (c .args .station) (c .loop-index .inv) (c .in-Ok .ensures tt))
+
+pub returns-in-Err : need.returns-in-Err
+returns-in-Err g c =
+    let whole = going-balance (g .S·Store .water) (g .S·Store .turns) (g .W·WeatherSource .means (c .args .source .now)) (c .args .station) (c .loop-index .inv) in
+    let room = going-room (g .S·Store .water) (g .S·Store .turns) (g .W·WeatherSource .means (c .args .source .now)) (c .args .station) (c .loop-index .inv) (c .pre) in
+    let same = ap (g .S·Store .water) (c .in-Err .ensures tt .1) in
+    record { going = search needs; ends = search needs; balance = omega (arith, whole, same); room = omega (arith, room, same) }
+
+pub returns : need.returns
+returns g c = record {
+  going = search needs;
+  ends = search needs;
+  balance = going-balance (g .S·Store .water) (g .S·Store .turns) (g .W·WeatherSource .means (c .args .source .now)) (c .args .station) (c .loop-index .inv);
+  room = going-room (g .S·Store .water) (g .S·Store .turns) (g .W·WeatherSource .means (c .args .source .now)) (c .args .station) (c .loop-index .inv) (c .pre);
+}
