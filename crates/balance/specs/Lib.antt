@@ -1,2 +1,3 @@
 pub mod Course
 pub mod Tables
+pub mod Agreement

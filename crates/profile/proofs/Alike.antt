@@ -9,7 +9,8 @@ use Rattle.std.proofs.shelf.Lists.{take-append-drop}
 use Rattle.weather.specs.declared.day.Day.{Day}
 use Rattle.stores.specs.declared.flows.Flows.{Flows}
 use Rattle.stores.specs.Outcome.{Single, Given}
-use Rattle.stores.proofs.Same.{le-at, flows-same}
+use Rattle.fixed.proofs.Bounds.{le-at}
+use Rattle.stores.proofs.Same.{flows-same}
 use Rattle.profile.specs.declared.layer.Layer.{Layer}
 use Rattle.profile.specs.declared.descent.Descent.{Descent}
 use Rattle.profile.specs.declared.soil.Soil.{Soil}

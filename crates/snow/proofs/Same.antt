@@ -1,10 +1,8 @@
 -- Packs with equal fields are equal, and a pack's turn has one outcome. Assumes nothing.
 use mathlib.Core.Path.{_≡_, PathP, refl, sym, ap, subst, _∙_}
-use mathlib.Core.HLevel.{isProp→PathP}
 use Prim.Native.Nat.{ℕ, _-_}
-use lib.Dec.{T-prop}
 use lib.IntN.{ℤ, pos, negsuc}
-use lib.Signed.{_≤ℤ_, leZ}
+use lib.Signed.{_≤ℤ_}
 use Rattle.weather.specs.declared.day.Day.{Day}
 use Rattle.snow.specs.declared.pack.Pack.{Pack}
 use Rattle.snow.specs.declared.pack_turn.Passed.{Passed}
@@ -12,13 +10,11 @@ use Rattle.stores.specs.declared.flows.Flows.{Flows}
 use Rattle.snow.specs.Pack.{PackTurn, passesOf, driesOf}
 use Rattle.snow.specs.Snowpack.{SnowpackTurn, snowpackGives}
 use Rattle.stores.specs.Outcome.{Single, Given}
-use Rattle.stores.proofs.Same.{le-at, flows-same}
-
-int-le-prop : {a b : ℤ} (x y : a ≤ℤ b) → x ≡ y
-int-le-prop {a} {b} x y j = record { le = T-prop (leZ a b) (x .le) (y .le) j }
+use Rattle.fixed.proofs.Bounds.{le-at, int-le-at}
+use Rattle.stores.proofs.Same.{flows-same}
 
 within : (lo hi : ℤ) {a b : ℤ} (e : a ≡ b) (x : (a ≤ℤ hi) × (lo ≤ℤ a)) (y : (b ≤ℤ hi) × (lo ≤ℤ b)) → PathP (λ j. (e j ≤ℤ hi) × (lo ≤ℤ e j)) x y
-within lo hi e x y j = (isProp→PathP (λ k. e k ≤ℤ hi) (λ k. int-le-prop) (x .0) (y .0) j, isProp→PathP (λ k. lo ≤ℤ e k) (λ k. int-le-prop) (x .1) (y .1) j)
+within lo hi e x y j = (int-le-at e refl (x .0) (y .0) j, int-le-at refl e (x .1) (y .1) j)
 
 pack-same : (p q : Pack) → p .water ≡ q .water → p .temperature ≡ q .temperature → p .snowfall ≡ q .snowfall → p .melting ≡ q .melting → p .lag ≡ q .lag → p .factor ≡ q .factor → p ≡ q
 pack-same p q n t s m l r j = record {

@@ -1,15 +1,10 @@
 -- Records with equal fields are equal, and an aquifer's turn has one outcome. Assumes nothing.
-use mathlib.Core.Path.{_≡_, PathP, refl, sym, _∙_}
-use mathlib.Core.HLevel.{isProp→PathP}
-use Prim.Native.Nat.{ℕ, _≤_}
-use native.Mathlib.Bridge.{le-prop}
+use mathlib.Core.Path.{_≡_, refl, sym, _∙_}
+use Prim.Native.Nat.{ℕ}
+use Rattle.fixed.proofs.Bounds.{le-at}
 use Rattle.stores.specs.declared.flows.Flows.{Flows}
 use Rattle.stores.specs.declared.aquifer.Aquifer.{Aquifer}
 use Rattle.stores.specs.Groundwater.{AquiferTurn}
-
--- two proofs of one bound, over equal numbers
-pub le-at : {a b c d : ℕ} (e : a ≡ b) (f : c ≡ d) (x : a ≤ c) (y : b ≤ d) → PathP (λ j. e j ≤ f j) x y
-le-at e f x y = isProp→PathP (λ j. e j ≤ f j) (λ j. le-prop) x y
 
 pub flows-same : (f g : Flows) → f .side ≡ g .side → f .vapour ≡ g .vapour → f .deep ≡ g .deep → f ≡ g
 flows-same f g s v d j = record { side = s j; vapour = v j; deep = d j }

@@ -1,2 +1,3 @@
 pub mod Mild
 pub mod Limited
+pub mod Same
