@@ -2,7 +2,7 @@
 use mathlib.Core.Path.{_≡_, refl, sym, ap, subst, _∙_}
 use mathlib.Core.List.{List, [], _∷_}
 use mathlib.Core.Logic.{inl, inr}
-use Prim.Native.Nat.{ℕ, _+_, _≤_, _<_}
+use Prim.Native.Nat.{ℕ, _≤_, _<_}
 use native.Mathlib.Omega.{arith}
 use lib.ListN.{length}
 use Rattle.std.specs.shelf.Lists.{sumBy}
@@ -22,7 +22,7 @@ use Rattle.stores.specs.Meaning.{limit}
 use Rattle.stores.specs.Outcome.{Single}
 use Rattle.stores.specs.declared.flows.Flows.{Flows}
 use Rattle.balance.specs.Agreement.{Agree}
-use Rattle.balance.specs.Course.{Accepted, Days, none, more, Refuses, Ends, Going, Ran, Course, stopped}
+use Rattle.balance.specs.Course.{Accepted, Days, none, more, Refuses, Ends, Ran}
 use Rattle.balance.specs.declared.balance.Moved.{Moved}
 use Rattle.balance.specs.declared.balance.Sums.{Sums}
 use Rattle.balance.specs.declared.balance.Stop.{Stop}

@@ -1,5 +1,5 @@
 -- Accepted days keep the water: the balance, and how far its sums can grow. Assumes nothing.
-use mathlib.Core.Path.{_≡_, refl, sym, ap, _∙_}
+use mathlib.Core.Path.{_≡_, refl}
 use mathlib.Core.List.{List, [], _∷_}
 use Prim.Native.Nat.{ℕ, _+_, _*_, _≤_, _<_}
 use native.Mathlib.Omega.{arith}
@@ -8,7 +8,7 @@ use Rattle.std.specs.shelf.Lists.{sumBy}
 use Rattle.std.proofs.shelf.Sums.{sumBy-cons}
 use Rattle.weather.specs.Meaning.{Meaning}
 use Rattle.weather.specs.declared.day.Day.{Day}
-use Rattle.stores.specs.Meaning.{limit, gone}
+use Rattle.stores.specs.Meaning.{limit}
 use Rattle.stores.specs.declared.flows.Flows.{Flows}
 use Rattle.balance.specs.Course.{Accepted, Days, none, more, Going, Fitting, added}
 use Rattle.balance.specs.declared.balance.Moved.{Moved}

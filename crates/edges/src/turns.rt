@@ -13,7 +13,6 @@ mod tests {
     use std::test::*;
     use stores::aquifer::Aquifer;
     use stores::aquifer_turn::AquiferStore;
-    use stores::flows::Flows;
     use stores::rock::Rock;
     use stores::rock::RockStore;
     use stores::store::Store;

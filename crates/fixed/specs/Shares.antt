@@ -1,13 +1,8 @@
 -- A share of an amount, in millionths, cut down, and the laws by which everything else uses it. Assumes nothing.
 use mathlib.Core.Path.{_≡_}
-use mathlib.Core.Bool.{cond}
 use Prim.Native.Nat.{ℕ, _+_, _*_, _/_, _≤_}
 use native.Mathlib.Omega.{arith}
-use lib.IntN.{ℤ, pos}
 use Rattle.std.proofs.shelf.Bits.{mul-le}
-use Rattle.std.specs.declared.option.Option.{Option}
-use Rattle.std.specs.declared.option.Option.the-variants.{Some, None}
-use Rattle.fixed.specs.Limits.{outside}
 
 -- amount × share ÷ 10⁶, cut down
 unfoldable pub partOf : ℕ → ℕ → ℕ
@@ -27,3 +22,9 @@ part-none f = omega arith
 pub parts-le : (a f g : ℕ) → f + g ≤ 1000000 → partOf a f + partOf a g ≤ a
 unfolding partOf
 parts-le a f g h = omega (arith, mul-le a (f + g) a 1000000 (omega arith) h)
+
+-- what everything else may use of a share
+pub record ShareLaws : Type 0 where
+  pub at-most : (a f : ℕ) → f ≤ 1000000 → partOf a f ≤ a
+  pub of-nothing : (f : ℕ) → partOf 0 f ≡ 0
+  pub of-two : (a f g : ℕ) → f + g ≤ 1000000 → partOf a f + partOf a g ≤ a

@@ -4,7 +4,7 @@ ghost use mathlib.Core.Path.{_≡_};
 ghost use Prim.Native.Nat.{_≤_};
 ghost use Rattle.std.specs.Options.{mapped};
 ghost use Rattle.fixed.specs.Limits.{NaturalIn};
-ghost use Rattle.fixed.specs.Shares.{partOf};
+ghost use Rattle.fixed.specs.Shares.{ShareLaws, partOf};
 
 pub const WHOLE: u32 = 1_000_000;
 
@@ -43,3 +43,8 @@ fn part(amount: u64, share: u32) -> u64
         None => (amount as u128 * share as u128 / WHOLE as u128) as u64,
     }
 }
+
+// The laws of a share, whatever its rounding.
+pub fn share_laws()
+    ensures { λ _. ⌜ ShareLaws ⌝ }
+{}

@@ -1,5 +1,5 @@
 -- Packs with equal fields are equal, and a pack's turn has one outcome. Assumes nothing.
-use mathlib.Core.Path.{_≡_, PathP, refl, sym, ap, subst, _∙_}
+use mathlib.Core.Path.{_≡_, PathP, refl, sym, _∙_}
 use Prim.Native.Nat.{ℕ, _-_}
 use lib.IntN.{ℤ, pos, negsuc}
 use lib.Signed.{_≤ℤ_}

@@ -1,7 +1,7 @@
 -- How a pack of snow is made, and what it does in a day. Assumes nothing.
 use mathlib.Core.Path.{_≡_}
 use mathlib.Core.Bool.{Bool, cond, _&&_}
-use mathlib.Core.List.{List, [], _∷_}
+use mathlib.Core.List.{[], _∷_}
 use lib.IntN.{ℤ, pos, negsuc, _+ℤ_, _-ℤ_, _*ℤ_, natAbs}
 use lib.Signed.{quotZ, leZ, ltZ}
 use Prim.Native.Nat.{ℕ, _+_, _-_, _*_, _/_, min}

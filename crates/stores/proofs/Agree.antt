@@ -2,12 +2,10 @@
 use mathlib.Core.Path.{_≡_, refl, sym, ap, _∙_}
 use Prim.Native.Nat.{ℕ}
 use native.Mathlib.Omega.{arith}
-use Rattle.std.specs.declared.result.Result.{Result}
 use Rattle.std.specs.declared.result.Result.the-variants.{Ok, Err}
 use Rattle.refusals.specs.declared.store.Overfull.{Overfull}
 use Rattle.weather.specs.declared.day.Day.{Day}
 use Rattle.stores.specs.declared.flows.Flows.{Flows}
-use Rattle.stores.specs.Meaning.{limit}
 use Rattle.stores.specs.Outcome.{Single, OneOutcome}
 
 overfull-same : (a b : Overfull) → a ≡ b

@@ -1,7 +1,7 @@
 -- The two bottoms: how an aquifer and bare rock divide their water. Assumes nothing.
 use mathlib.Core.Path.{_≡_}
 use mathlib.Core.Bool.{cond}
-use mathlib.Core.List.{List, [], _∷_}
+use mathlib.Core.List.{[], _∷_}
 use lib.Dec.{ltb}
 use lib.IntN.{ℤ, pos}
 use Prim.Native.Nat.{ℕ, _+_, _-_}

@@ -1,7 +1,7 @@
 -- How a surface is made, and how much of an inflow runs off. Assumes nothing.
 use mathlib.Core.Path.{_≡_}
 use mathlib.Core.Bool.{cond}
-use mathlib.Core.List.{List, [], _∷_}
+use mathlib.Core.List.{[], _∷_}
 use lib.Dec.{ltb}
 use lib.IntN.{ℤ, pos, negsuc}
 use Prim.Native.Nat.{ℕ, _+_, _-_, _*_, _/_, min}

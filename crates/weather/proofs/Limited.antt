@@ -11,7 +11,7 @@ use Rattle.std.proofs.shelf.Signed.{ints}
 use Rattle.fixed.specs.Limits.{outside}
 use Rattle.refusals.specs.Refusals.{refuse}
 use Rattle.weather.specs.declared.day.Day.{Day}
-use Rattle.weather.specs.Days.{Figures, figures, Possible, dayFault}
+use Rattle.weather.specs.Days.{figures, Possible, dayFault}
 
 -- a value that is not outside its limits is within them
 pub within : (least greatest z : ℤ) → outside least greatest z ≡ false → (least ≤ℤ z) × (z ≤ℤ greatest)

@@ -1,6 +1,6 @@
 -- Which days of weather exist. Assumes nothing.
 use mathlib.Core.Path.{_≡_}
-use mathlib.Core.List.{List, [], _∷_}
+use mathlib.Core.List.{[], _∷_}
 use lib.IntN.{ℤ, pos, negsuc, _+ℤ_}
 use lib.Signed.{quotZ, _≤ℤ_}
 use Prim.Native.Nat.{ℕ, _≤_}

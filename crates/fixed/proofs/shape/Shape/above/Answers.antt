@@ -1,4 +1,4 @@
-use mathlib.Core.Path.{_≡_, sym, ap, _∙_}
+use mathlib.Core.Path.{_≡_, ap, _∙_}
 use lib.IntN.{ℤ, natAbs}
 use mir.Syntax.{w32}
 use mir.Val.{toZ, ofZ}

@@ -1,14 +1,13 @@
 use mathlib.Core.Path.{_≡_, sym, ap, subst, _∙_}
-use mathlib.Core.Bool.{Bool, true, false}
 use native.Mathlib.Omega.{arith}
 use lib.IntN.{ℤ, pos, natAbs}
 use lib.Signed.{leZ}
 use mir.Syntax.{w32}
 use mir.Val.{Fits, toZ, ofZ}
-use Prim.Native.Nat.{ℕ, _*_, _/_, min}
+use Prim.Native.Nat.{_*_, _/_, min}
 use Rattle.std.proofs.shelf.Signed.{toZ-ofZ}
 use borrow.Author.Needs.{needs}
-use Rattle.snow.specs.Pack.{heatAt, meltAt}
+use Rattle.snow.specs.Pack.{heatAt}
 use Rattle.weather.proofs.Mild.{small-fits, day-high}
 use Rattle.snow.proofs.Melt.{melt-cold, melt-frost, melt-some, melt-fits}
 use Rattle.snow.proofs.pack.Pack.melted.Needs as need
