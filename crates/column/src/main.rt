@@ -1,7 +1,7 @@
 // Takes one soil column through the weather table on standard input and prints its balance.
 mod loam;
 
-use balance::course::NAMES;
+use balance::numbers::NAMES;
 use balance::table::run_table;
 use loam::loam;
 use profile::profile_turn::ProfileStore;

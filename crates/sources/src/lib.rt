@@ -1,6 +1,6 @@
 // Sources of weather: a table of records in bytes, and a normal year.
 mod bytes;
-pub mod calendar;
+mod calendar;
 mod header;
 pub mod normal_year;
 mod normal_year_new;
