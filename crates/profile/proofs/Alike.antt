@@ -18,7 +18,7 @@ use Rattle.profile.specs.Layers.{LayerTurn, through}
 use Rattle.profile.specs.Soils.{LayersTurn, SoilTurn, layersOf, entering, descended}
 use Rattle.profile.specs.Profiles.{ProfileTurn, profileGives}
 
-layer-same : (a b : Layer) → a .wilting ≡ b .wilting → a .capacity ≡ b .capacity → a .water ≡ b .water → a .percolation ≡ b .percolation → a .lateral ≡ b .lateral → a .demand ≡ b .demand → a ≡ b
+pub layer-same : (a b : Layer) → a .wilting ≡ b .wilting → a .capacity ≡ b .capacity → a .water ≡ b .water → a .percolation ≡ b .percolation → a .lateral ≡ b .lateral → a .demand ≡ b .demand → a ≡ b
 layer-same a b w c n p l d j = record {
   wilting = w j;
   capacity = c j;
@@ -45,7 +45,7 @@ layers-single (l ∷ ls) r (m ∷ ms) (n ∷ ns) x y =
     let rest = layers-single ls (through l r) ms ns (x .1) (y .1) in
     λ j. head j ∷ rest j
 
-soil-same : (a b : Soil) → a .layers .rows ≡ b .layers .rows → a .count ≡ b .count → a ≡ b
+pub soil-same : (a b : Soil) → a .layers .rows ≡ b .layers .rows → a .count ≡ b .count → a ≡ b
 soil-same a b l c j = record { layers = record { rows = l j }; count = c j; within = le-at c refl (a .within) (b .within) j }
 
 -- the layers have one outcome, and the rows past them are as they were

@@ -1,8 +1,8 @@
 -- What layers of soil do in a day, from the top down, and how one more is added. Assumes nothing.
 use mathlib.Core.Path.{_≡_}
 use mathlib.Core.List.{List, [], _∷_, _++_}
-use lib.Dec.{leb}
-use lib.ListN.{length, take, drop, getD, set}
+use lib.Dec.{leb, lit≤, lit<}
+use lib.ListN.{length, take, drop, getD, set, replicate}
 use Prim.Native.Nat.{ℕ, _+_, _-_, _≤_, _<_}
 use Rattle.std.specs.declared.option.Option.{Option}
 use Rattle.std.specs.declared.option.Option.the-variants.{Some, None}
@@ -10,12 +10,16 @@ use Rattle.std.specs.declared.result.Result.{Result}
 use Rattle.std.specs.declared.result.Result.the-variants.{Ok, Err}
 use Rattle.std.specs.shelf.Lists.{sumBy}
 use Rattle.fixed.specs.Limits.{first}
+use Rattle.fixed.specs.declared.share.Share.{Share}
 use Rattle.refusals.specs.Refusals.{Refusal, refuse, profileRefusal}
 use Rattle.refusals.specs.declared.profile.ProfileFull.{ProfileFull}
 use Rattle.profile.specs.declared.layer.Layer.{Layer}
 use Rattle.profile.specs.declared.descent.Descent.{Descent}
 use Rattle.profile.specs.declared.soil.Soil.{Soil}
 use Rattle.profile.specs.Layers.{LayerTurn, through}
+
+abbrev pub noShare : Share
+noShare = record { millionths = 0; within = lit≤ tt }
 
 -- the layers of a soil: its rows up to the count, and nothing past them
 abbrev pub layersOf : Soil → List Layer
@@ -76,11 +80,19 @@ pub record RowTurn (ls : List Layer) (i : ℕ) (r : Descent) (ms : List Layer) (
   pub passed : s ≡ through before r
   pub drunk : s .vapour + s .demand ≤ r .vapour + r .demand
 
+-- what stands in a row that no layer has yet
+abbrev pub bareLayer : Layer
+bareLayer = record { wilting = 0; capacity = 1; water = 0; percolation = noShare; lateral = noShare; demand = noShare; points = (lit< tt, lit≤ tt); held = (lit≤ tt, lit≤ tt); parts = lit≤ tt }
+
+-- a soil without layers
+abbrev pub emptySoil : Soil
+emptySoil = record { layers = record { rows = replicate 10 bareLayer }; count = 0; within = lit≤ tt }
+
 -- an eleventh layer is refused
 abbrev pub addFault : Soil → Option Refusal
 addFault k = first ((leb 10 (k .count), refuse 13 10) ∷ [])
 
 -- a layer more at the bottom, or the refusal and the soil as it was
 abbrev pub Added : Soil → Layer → Soil → Result (Unit {0}) ProfileFull → Type 0
-Added k l k′ (Ok u) = (addFault k ≡ None) × (k′ .count ≡ k .count + 1) × (layersOf k′ ≡ layersOf k ++ (l ∷ []))
+Added k l k′ (Ok u) = (addFault k ≡ None) × (k′ .count ≡ k .count + 1) × (layersOf k′ ≡ layersOf k ++ (l ∷ [])) × (k′ .layers .rows ≡ set (k .layers .rows) (k .count) l)
 Added k l k′ (Err e) = (addFault k ≡ Some (profileRefusal e)) × (k′ ≡ k)

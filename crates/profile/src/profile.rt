@@ -3,7 +3,7 @@ use crate::layer::Layer;
 use crate::soil::Soil;
 use refusals::profile::ProfileFull;
 ghost use mathlib.Core.Path.{_≡_};
-ghost use Rattle.profile.specs.Soils.{Added};
+ghost use Rattle.profile.specs.Soils.{Added, emptySoil};
 
 #[derive(Clone, Copy)]
 pub struct Profile<L> {
@@ -14,7 +14,7 @@ pub struct Profile<L> {
 impl<L> Profile<L> {
     // A profile without layers yet.
     pub fn new(lower: L) -> Profile<L>
-        ensures layers { λ r. ⌜ r .soil .count ≡ 0 ⌝ }
+        ensures layers { λ r. ⌜ r .soil ≡ emptySoil ⌝ }
         ensures under { λ r. ⌜ r .lower ≡ lower ⌝ }
     {
         Profile {

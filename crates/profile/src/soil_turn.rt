@@ -9,7 +9,7 @@ ghost use mathlib.Core.Path.{_≡_};
 ghost use mathlib.Core.List.{[], _∷_, _++_};
 ghost use Prim.Native.Nat.{_+_, _≤_, _<_};
 ghost use lib.ListN.{take, set};
-ghost use Rattle.profile.specs.Soils.{RowTurn, SoilTurn, Added, soilWater, soilRoot, layersWater, descended};
+ghost use Rattle.profile.specs.Soils.{RowTurn, SoilTurn, Added, emptySoil, soilWater, soilRoot, layersWater, descended};
 
 impl Layers {
     // One day of the layer in row i, with what comes down to it.
@@ -34,7 +34,7 @@ impl Layers {
 impl Soil {
     // No layers yet: each row holds a layer without water or shares.
     pub(crate) fn empty() -> Soil
-        ensures { λ r. ⌜ r .count ≡ 0 ⌝ }
+        ensures { λ r. ⌜ r ≡ emptySoil ⌝ }
     {
         let none = Share { millionths: 0 };
         let bare = Layer {

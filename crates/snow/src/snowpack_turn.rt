@@ -42,7 +42,7 @@ pub impl<L: Store> Store for Snowpack<L> as SnowpackStore {
     }
 
     fn root_water(&self) -> Result<u32, Overfull> {
-        let _within = self.water()?;
+        self.water()?;
         self.lower.root_water()
     }
 }
