@@ -1,6 +1,7 @@
 -- A column of ground taken through the days of a weather source. Assumes nothing.
 use mathlib.Core.Path.{_≡_}
 use mathlib.Core.List.{List, [], _∷_}
+use lib.Chars.{codes}
 use lib.ListN.{length}
 use Prim.Native.Nat.{ℕ, _+_, _≤_, _<_, _^_}
 use Rattle.std.specs.shelf.Lists.{sumBy}
@@ -32,9 +33,17 @@ abbrev pub stopNumber : Option Stop → ℕ
 stopNumber None = 0
 stopNumber (Some e) = stopRefusal e .number
 
--- the eight numbers of a balance, in the order in which they are printed
-abbrev pub balanceNumbers : Balance → List ℕ
-balanceNumbers b = b .days ∷ b .sums .rain ∷ b .sums .side ∷ b .sums .vapour ∷ b .sums .deep ∷ b .start ∷ b .end ∷ stopNumber (b .stop) ∷ []
+-- the eight figures of a balance, each with its name, in the order in which they are printed
+abbrev pub balanceLines : Balance → List (List ℕ × ℕ)
+balanceLines b =
+    (codes "days", b .days) ∷
+    (codes "rain", b .sums .rain) ∷
+    (codes "side", b .sums .side) ∷
+    (codes "vapour", b .sums .vapour) ∷
+    (codes "deep", b .sums .deep) ∷
+    (codes "start", b .start) ∷
+    (codes "end", b .end) ∷
+    (codes "stop", stopNumber (b .stop)) ∷ []
 
 -- an accepted day: the column takes the rain and the demand that the source means for the station and the index
 pub record Accepted {S : Type 0} (water : S → ℕ) (turns : S → ℕ → ℕ → Day → S → Flows → Type 0) (m : Meaning) (station index : ℕ) (s t : S) (d : Moved) : Type 0 where

@@ -2,5 +2,5 @@
 pub mod agreement;
 pub mod balance;
 pub mod course;
-pub mod numbers;
+pub mod lines;
 pub mod table;

@@ -1,7 +1,6 @@
 // Takes one soil column through the weather table on standard input and prints its balance.
 mod loam;
 
-use balance::numbers::NAMES;
 use balance::table::run_table;
 use loam::loam;
 use profile::profile_turn::ProfileStore;
@@ -15,8 +14,7 @@ fn main(rt: LibcRuntime) -> Result<(), AnyError> {
     let mut bytes = Vec::new(rt.alloc());
     rt.stdin().read_to_end(&mut bytes)?;
     let mut column = loam();
-    let numbers = run_table(&mut column, &bytes).numbers();
-    for (name, number) in NAMES.iter().zip(numbers.iter()) {
+    for (name, number) in run_table(&mut column, &bytes).lines() {
         println!(rt, "{name} {number}")?;
     }
     Ok(())

@@ -7,7 +7,7 @@ mod tests {
     use weather::day::Day;
 
     // Figures in field order, and the field that is refused, or 0.
-    const CASES: [([i64; 5], u64); 24] = [
+    const CASES: [([i64; 5], u64); 26] = [
         ([1, 0, 0, 0, 0], 0),
         ([0, 0, 0, 0, 0], 1),
         ([365, 0, 0, 0, 0], 0),
@@ -32,6 +32,8 @@ mod tests {
         ([1, -1, 6_001, -6_001, -1], 2),
         ([1, 0, 6_001, -6_001, -1], 3),
         ([i64::MIN, i64::MAX, i64::MAX, i64::MIN, i64::MAX], 1),
+        ([2, 1, -5_999, -5_999, 1], 0),
+        ([364, 999_999, 5_999, 5_998, 49_999], 0),
     ];
 
     fn holds(day: Day, figures: [i64; 5]) -> bool {

@@ -14,7 +14,7 @@ mod tests {
     use weather::source::WeatherSource;
 
     // Stations, first day of the year, and the setting that is refused, or 0.
-    const SETTINGS: [(i64, i64, u64); 10] = [
+    const SETTINGS: [(i64, i64, u64); 12] = [
         (1, 1, 0),
         (64, 365, 0),
         (0, 1, 1),
@@ -25,6 +25,8 @@ mod tests {
         (-1, 1, 1),
         (1, -1, 2),
         (i64::MIN, i64::MAX, 1),
+        (2, 2, 0),
+        (63, 364, 0),
     ];
 
     // Index, date and month from the first of January on.

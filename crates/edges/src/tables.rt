@@ -19,7 +19,7 @@ mod tests {
     use weather::source::WeatherSource;
 
     // Stations, days, first year and first date; the number and the value of the refusal, or 0.
-    const HEADERS: [([u32; 4], u32, u64); 18] = [
+    const HEADERS: [([u32; 4], u32, u64); 22] = [
         ([2, 1, 2000, 100], 0, 0),
         ([1, 2, 2000, 100], 0, 0),
         ([0, 1, 2000, 100], 22, 1),
@@ -38,6 +38,10 @@ mod tests {
         ([2, 1, 2000, 366], 22, 4),
         ([0, 0, 0, 0], 22, 1),
         ([u32::MAX, u32::MAX, u32::MAX, u32::MAX], 22, 1),
+        ([63, 1, 2000, 100], 23, 0),
+        ([2, 36_499, 2000, 100], 23, 0),
+        ([2, 1, 2, 2], 0, 0),
+        ([2, 1, 9_998, 364], 0, 0),
     ];
 
     fn put_word(bytes: &mut [u8], place: usize, number: u32)
@@ -111,7 +115,7 @@ mod tests {
     const MISSING: Record = Record(u32::MAX, 32_767, -32_768, u32::MAX);
 
     // A record, and the number of the refusal, or 0.
-    const RECORDS: [(Record, u32); 14] = [
+    const RECORDS: [(Record, u32); 16] = [
         (CALM, 0),
         (MISSING, 33),
         (Record(u32::MAX, 0, 0, 0), 33),
@@ -126,6 +130,8 @@ mod tests {
         (Record(0, -1, 0, 0), 34),
         (Record(0, 0, 0, 50_001), 34),
         (Record(0, 0, 0, u32::MAX), 34),
+        (Record(1, -5_999, -5_999, 1), 0),
+        (Record(999_999, 5_999, 5_998, 49_999), 0),
     ];
 
     // Station, index, and the number of the refusal, of two stations of two days.

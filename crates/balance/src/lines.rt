@@ -1,4 +1,4 @@
-// A balance as the numbers that are printed of it.
+// A balance as the lines that are printed of it.
 use crate::balance::Balance;
 use crate::balance::Stop;
 use crate::balance::Sums;
@@ -6,20 +6,9 @@ use refusals::refused::Refused;
 use refusals::store::StoreRefused;
 use refusals::table::TableRefused;
 use refusals::weather::WeatherRefused;
+ghost use mathlib.Core.List.{map};
 ghost use mathlib.Core.Path.{_≡_};
-ghost use Rattle.balance.specs.Course.{balanceNumbers, stopNumber, stopped};
-
-// What each number of a balance is called where it is printed.
-pub const NAMES: [&str; 8] = [
-    "days",
-    "rain",
-    "side",
-    "vapour",
-    "deep",
-    "start",
-    "end",
-    "stop",
-];
+ghost use Rattle.balance.specs.Course.{balanceLines, stopNumber, stopped};
 
 impl Balance {
     // Nothing but a stop.
@@ -52,19 +41,19 @@ impl Balance {
         }
     }
 
-    // Its numbers in the order of `NAMES`.
-    pub fn numbers(&self) -> [u64; 8]
-        ensures { λ r. ⌜ r ≡ balanceNumbers (now (self .entry)) ⌝ }
+    // Its figures, each with its name, in the order in which they are printed.
+    pub fn lines(&self) -> [(&'static str, u64); 8]
+        ensures { λ r. ⌜ map (λ l. (now (l .0), l .1)) r ≡ balanceLines (now (self .entry)) ⌝ }
     {
         [
-            self.days,
-            self.sums.rain,
-            self.sums.side,
-            self.sums.vapour,
-            self.sums.deep,
-            self.start,
-            self.end,
-            self.stop_number() as u64,
+            ("days", self.days),
+            ("rain", self.sums.rain),
+            ("side", self.sums.side),
+            ("vapour", self.sums.vapour),
+            ("deep", self.sums.deep),
+            ("start", self.start),
+            ("end", self.end),
+            ("stop", self.stop_number() as u64),
         ]
     }
 }
