@@ -38,7 +38,7 @@ listed (Two v w) = v ∷ w ∷ []
 abbrev pub refuse : ℕ → ℕ → Refusal
 refuse n v = record { number = n; values = v ∷ [] }
 
--- ---- 11, field: a figure for a day is outside
+-- ---- 11, field: a figure of a day of weather lies outside its limits
 abbrev pub dayRefusal : DayFault → Refusal
 dayRefusal DayOfYear = refuse 11 1
 dayRefusal Rain = refuse 11 2
@@ -46,7 +46,7 @@ dayRefusal Highest = refuse 11 3
 dayRefusal Lowest = refuse 11 4
 dayRefusal Demand = refuse 11 5
 
--- ---- 12, field: a setting is outside
+-- ---- 12, field: a setting lies outside its limits
 abbrev pub snowpackRefusal : SnowpackSetting → Refusal
 snowpackRefusal SnowWater = refuse 12 1
 snowpackRefusal PackTemperature = refuse 12 2

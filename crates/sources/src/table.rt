@@ -1,4 +1,4 @@
-// A weather table, read out of the caller's bytes without a copy.
+// A weather table over bytes that stay the caller's.
 use crate::span::Span;
 ghost use denote.Ref.{now};
 ghost use Rattle.sources.specs.Header.{Headed, Stamped};
