@@ -2,7 +2,7 @@
 use crate::profile::Profile;
 use refusals::store::Overfull;
 use stores::flows::Flows;
-use stores::store::LIMIT;
+use stores::room::room;
 use stores::store::Store;
 use weather::day::Day;
 ghost use Prim.Native.Nat.{_+_};
@@ -18,9 +18,7 @@ pub impl<L: Store> Store for Profile<L> as ProfileStore {
 
     fn turn(&mut self, inflow: u32, demand: u32, day: &Day) -> Result<Flows, Overfull> {
         let lower = self.lower.water()?;
-        if self.soil.water() + lower as u64 + inflow as u64 > LIMIT as u64 {
-            return Err(Overfull);
-        }
+        room(self.soil.water(), lower, inflow)?;
         let passed = self.soil.turn(inflow, demand);
         let below = self.lower.turn(passed.seepage, passed.demand, day)?;
         Ok(Flows {
@@ -31,11 +29,8 @@ pub impl<L: Store> Store for Profile<L> as ProfileStore {
     }
 
     fn water(&self) -> Result<u32, Overfull> {
-        let all = self.soil.water() + self.lower.water()? as u64;
-        if all > LIMIT as u64 {
-            return Err(Overfull);
-        }
-        Ok(all as u32)
+        let lower = self.lower.water()?;
+        room(self.soil.water(), lower, 0)
     }
 
     fn root_water(&self) -> Result<u32, Overfull> {

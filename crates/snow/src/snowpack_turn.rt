@@ -3,7 +3,7 @@ use crate::snowpack::Snowpack;
 use refusals::store::Overfull;
 use stores::determined::Determined;
 use stores::flows::Flows;
-use stores::store::LIMIT;
+use stores::room::room;
 use stores::store::Store;
 use weather::day::Day;
 ghost use Prim.Native.Nat.{_+_};
@@ -18,9 +18,7 @@ pub impl<L: Store> Store for Snowpack<L> as SnowpackStore {
 
     fn turn(&mut self, inflow: u32, demand: u32, day: &Day) -> Result<Flows, Overfull> {
         let lower = self.lower.water()?;
-        if self.pack.water as u64 + lower as u64 + inflow as u64 > LIMIT as u64 {
-            return Err(Overfull);
-        }
+        room(self.pack.water as u64, lower, inflow)?;
         let mut pack = self.pack;
         let passed = pack.turn(inflow, demand, day);
         let below = self.lower.turn(passed.below, demand - passed.vapour, day)?;
@@ -34,11 +32,7 @@ pub impl<L: Store> Store for Snowpack<L> as SnowpackStore {
 
     fn water(&self) -> Result<u32, Overfull> {
         let lower = self.lower.water()?;
-        let all = self.pack.water + lower;
-        if all > LIMIT {
-            return Err(Overfull);
-        }
-        Ok(all)
+        room(self.pack.water as u64, lower, 0)
     }
 
     fn root_water(&self) -> Result<u32, Overfull> {

@@ -4,4 +4,5 @@ pub mod aquifer_turn;
 pub mod determined;
 pub mod flows;
 pub mod rock;
+pub mod room;
 pub mod store;

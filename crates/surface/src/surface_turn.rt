@@ -3,7 +3,7 @@ use crate::surface::Surface;
 use refusals::store::Overfull;
 use stores::determined::Determined;
 use stores::flows::Flows;
-use stores::store::LIMIT;
+use stores::room::room;
 use stores::store::Store;
 use weather::day::Day;
 ghost use Rattle.surface.specs.Surface.{SurfaceTurn, surfaceGives};
@@ -17,9 +17,7 @@ pub impl<L: Store> Store for Surface<L> as SurfaceStore {
 
     fn turn(&mut self, inflow: u32, demand: u32, day: &Day) -> Result<Flows, Overfull> {
         let water = self.lower.water()?;
-        if water as u64 + inflow as u64 > LIMIT as u64 {
-            return Err(Overfull);
-        }
+        room(0, water, inflow)?;
         // The roots are read before the day's turn below.
         let root = self.lower.root_water()?;
         let runoff = self.retention.runoff(inflow, root);

@@ -1,7 +1,6 @@
-use mathlib.Core.Path.{_≡_, refl, ap}
+use mathlib.Core.Path.{refl, ap}
 use lib.ListN.{replicate}
 use Rattle.fixed.proofs.Bounds.{share-same}
-use Rattle.fixed.specs.declared.share.Share.{Share}
 use Rattle.profile.specs.Soils.{bareLayer, emptySoil, noShare}
 use Rattle.profile.proofs.Alike.{layer-same, soil-same}
 use Rattle.profile.proofs.soil.Soil.empty.Needs as need
