@@ -19,10 +19,8 @@ pub impl<L: Store> Store for Snowpack<L> as SnowpackStore {
     fn turn(&mut self, inflow: u32, demand: u32, day: &Day) -> Result<Flows, Overfull> {
         let lower = self.lower.water()?;
         room(self.pack.water as u64, lower, inflow)?;
-        let mut pack = self.pack;
-        let passed = pack.turn(inflow, demand, day);
+        let passed = self.pack.turn(inflow, demand, day);
         let below = self.lower.turn(passed.below, demand - passed.vapour, day)?;
-        self.pack = pack;
         Ok(Flows {
             side: below.side,
             vapour: passed.vapour + below.vapour,
