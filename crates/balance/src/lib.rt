@@ -1,3 +1,4 @@
+#![tactic(auto)]
 // The water balance of one column of ground over the days of a weather source.
 pub mod agreement;
 pub mod balance;

@@ -1,3 +1,4 @@
+#![tactic(auto)]
 // A basin of sites, units, reaches and a day count, and the three calls on it.
 pub mod answer;
 pub mod basin;

@@ -1,3 +1,4 @@
+#![tactic(auto)]
 // What the three calls on a basin answer at their limits, and every refusal by its number and values.
 mod amounts;
 mod answers;

@@ -1,3 +1,4 @@
+#![tactic(auto)]
 // Takes one soil column through the weather table on standard input and prints its balance.
 mod loam;
 

@@ -1,3 +1,4 @@
+#![tactic(auto)]
 // The two columns of the house, and that each has one outcome for every turn.
 ghost use Rattle.stores.specs.Outcome.{OneOutcome};
 ghost use Rattle.columns.specs.Columns.{column_water, column_turns, rock_water, rock_turns};

@@ -1,3 +1,4 @@
+#![tactic(auto)]
 // What every part answers at its limits, and every refusal by its number and values.
 mod answers;
 mod balances;

@@ -1,3 +1,4 @@
+#![tactic(auto)]
 // Figures worked by hand, proved of the definitions that the contracts cite.
 ghost use Rattle.figures.specs.Example.{ExampleHistory};
 ghost use Rattle.figures.specs.TwoDays.{NineLines, TwoDays};

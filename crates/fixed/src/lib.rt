@@ -1,3 +1,4 @@
+#![tactic(auto)]
 // Fixed-point arithmetic of the water balance: shares and the two curves.
 pub mod decay;
 pub mod limits;

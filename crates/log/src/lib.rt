@@ -1,3 +1,4 @@
+#![tactic(auto)]
 // The log of a run: nine lines of a name and a number, written into the caller's buffer.
 pub mod answers;
 pub mod figures;

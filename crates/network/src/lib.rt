@@ -1,3 +1,4 @@
+#![tactic(auto)]
 // The river network of a basin: sites, reaches, and the records of what flows.
 pub mod channel;
 pub mod flows;

@@ -1,3 +1,4 @@
+#![tactic(auto)]
 // Runs a weather table over bare rock and prints the nine lines of its log.
 use anyhow::anyhow;
 use network::flows::{NO_REACH_FLOW, NO_UNIT_FLOW};

@@ -1,3 +1,4 @@
+#![tactic(auto)]
 // The soil profile: up to ten layers of soil over any store.
 pub mod descent;
 pub mod determined;

@@ -1,3 +1,4 @@
+#![tactic(auto)]
 // Every refusal, named by what is wrong. specs/Refusals.antt gives each its number and its values.
 pub mod aquifer;
 pub mod basin;

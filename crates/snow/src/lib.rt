@@ -1,3 +1,4 @@
+#![tactic(auto)]
 // Snow lying on any store.
 pub mod pack;
 pub mod pack_turn;

@@ -1,3 +1,4 @@
+#![tactic(auto)]
 // Sources of weather: a table of records in bytes, and a normal year.
 mod bytes;
 mod calendar;

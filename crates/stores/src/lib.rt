@@ -1,3 +1,4 @@
+#![tactic(auto)]
 // What a store of water means, and the two bottoms: aquifer and rock.
 pub mod aquifer;
 pub mod aquifer_turn;

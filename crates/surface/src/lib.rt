@@ -1,3 +1,4 @@
+#![tactic(auto)]
 // The surface: what of an inflow runs off, over any store.
 pub mod retention;
 pub mod runoff;

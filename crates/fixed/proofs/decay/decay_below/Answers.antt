@@ -10,8 +10,8 @@ loop-i-preserved c =
     let i = c.loop-i.i in
     let e = c.loop-i.e in
     let place : 13 - i ≡ 14 - (i + 1) = omega arith in
-    let step : c.decay-bit-e.result ≡ decay_bit k (14 - (i + 1)) (get_or constants i 0) e = c.decay-bit-e.ensures.value ∙ ap (λ (n : ℕ). decay_bit k n (get_or constants i 0) e) place in
-    (c.decay-bit-e.ensures.bound, ap (decay_bits k (drop (i + 1) constants)) step ∙ sym (bits_more k e i constants c.loop-i-test.true) ∙ c.loop-i.invariant.1)
+    let step : c.decay_bit-e.result ≡ decay_bit k (14 - (i + 1)) (get_or constants i 0) e = c.decay_bit-e.ensures.value ∙ ap (λ (n : ℕ). decay_bit k n (get_or constants i 0) e) place in
+    (c.decay_bit-e.ensures.bound, ap (decay_bits k (drop (i + 1) constants)) step ∙ sym (bits_more k e i constants c.loop-i-test.true) ∙ c.loop-i.invariant.1)
 
 pub returns : goal.returns
 unfolding decay_below

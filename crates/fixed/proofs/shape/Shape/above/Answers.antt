@@ -13,9 +13,9 @@ returns c =
     let r = c.exponent-a.result in
     let back : to_z w32 (of_z w32 r) ≡ r = to_z-of_z w32 r (search rules) in
     let bent : to_z w32 (of_z w32 r) ≡ a = back ∙ c.exponent-a.ensures in
-    let abs : c.unsigned-abs.result ≡ nat_abs a = c.unsigned-abs.ensures.value ∙ ap nat_abs bent in
+    let abs : c.unsigned_abs.result ≡ nat_abs a = c.unsigned_abs.ensures.value ∙ ap nat_abs bent in
     let e : c.decay-e.result ≡ decay_at (nat_abs a) = c.decay-e.ensures.value ∙ ap decay_at abs in
     record {
-      value = c.moisture-by.ensures.value ∙ ap (λ (z : ℤ). moisture_by x z (c.decay-e.result / 1000)) bent ∙ ap (λ (n : ℕ). moisture_by x a (n / 1000)) e;
-      bound = c.moisture-by.ensures.bound;
+      value = c.moisture_by.ensures.value ∙ ap (λ (z : ℤ). moisture_by x z (c.decay-e.result / 1000)) bent ∙ ap (λ (n : ℕ). moisture_by x a (n / 1000)) e;
+      bound = c.moisture_by.ensures.bound;
     }
