@@ -16,7 +16,7 @@ day-requires g c =
     record {
       sound = c.loop-d.invariant.sound;
       room = (c.loop-d.auto.weather ∙ room.0, c.loop-d.auto.demands ∙ room.1 ∙ sym reaches);
-      lists = (c.loop-d.auto.unit-day ∙ lists.0, c.loop-d.auto.reach-day ∙ lists.1 ∙ sym reaches);
+      lists = (c.loop-d.auto.unit_day ∙ lists.0, c.loop-d.auto.reach_day ∙ lists.1 ∙ sym reaches);
       few = counted_few c.loop-d.invariant (omega arith);
     }
 
@@ -29,14 +29,14 @@ returns-in-Err g c =
       asked = asked_some c.loop-d.invariant c.in-Err.ensures.counted;
     }
 
-pub add-sums-sums-requires : goal.add-sums-sums-requires
-add-sums-sums-requires g c =
+pub add_sums-sums-requires : goal.add_sums-sums-requires
+add_sums-sums-requires g c =
     let few = c.requires.few.0 in
     let test = c.loop-d-test.true in
-    (sums_wider 1000000000000000000000000000000000000 c.loop-d.invariant.bounded.sums (omega arith), sums_wider 1000000000000000000000000000000000000 c.day-sums.ensures.small (omega arith))
+    (sums_wider 1000000000000000000000000000000000000 c.loop-d.invariant.bounded.sums (omega arith), sums_wider 1000000000000000000000000000000000000 c.day_sums.ensures.small (omega arith))
 
-pub add-units-requires : goal.add-units-requires
-add-units-requires g c =
+pub add_units-requires : goal.add_units-requires
+add_units-requires g c =
     let d = c.in-Ok.ensures.today in
     let long = d.flows_long in
     let many = c.loop-d.invariant.sound.many in
@@ -48,8 +48,8 @@ add-units-requires g c =
       small = λ k h. (unit_wider 9000000000000000000 (c.loop-d.invariant.bounded.units k h) (omega arith), unit_wider 9000000000000000000 (unit_small d k (omega arith)) (omega arith));
     }
 
-pub add-reaches-requires : goal.add-reaches-requires
-add-reaches-requires g c =
+pub add_reaches-requires : goal.add_reaches-requires
+add_reaches-requires g c =
     let d = c.in-Ok.ensures.today in
     let long = d.reach_flows_long in
     let flows = c.loop-d.auto.reach_flows ∙ c.requires.flows.1 ∙ sym c.loop-d.auto.reaches in
@@ -62,7 +62,7 @@ add-reaches-requires g c =
 
 pub loop-d-preserved : goal.loop-d-preserved
 loop-d-preserved g c =
-    underway_more c.add-sums-sums.result c.loop-d.invariant c.in-Ok.ensures.today (c.loop-d.auto.unit_flows ∙ c.requires.flows.0) (c.loop-d.auto.reach_flows ∙ c.requires.flows.1 ∙ sym c.loop-d.auto.reaches) c.add-units.auto.list c.add-reaches.auto.list c.add-units.ensures c.add-reaches.ensures (c.in-Ok.ensures.small refl) c.day-sums.ensures.small c.day-sums.ensures.value c.add-sums-sums.ensures c.in-Ok.ensures.counted
+    underway_more c.add_sums-sums.result c.loop-d.invariant c.in-Ok.ensures.today (c.loop-d.auto.unit_flows ∙ c.requires.flows.0) (c.loop-d.auto.reach_flows ∙ c.requires.flows.1 ∙ sym c.loop-d.auto.reaches) c.add_units.auto.list c.add_reaches.auto.list c.add_units.ensures c.add_reaches.ensures (c.in-Ok.ensures.small refl) c.day_sums.ensures.small c.day_sums.ensures.value c.add_sums-sums.ensures c.in-Ok.ensures.counted
 
 pub returns : goal.returns
 returns g c =

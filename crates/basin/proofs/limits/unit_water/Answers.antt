@@ -15,8 +15,8 @@ returns-in-Err g c =
     let over = c.in-Err.ensures in
     record { held = c.loop-i.invariant.0 ∙ full_here water (rain_in c.args.weather.now) us i x c.loop-i-test.true (omega arith); small = tt }
 
-pub returns-then-rain-in-water : goal.returns-then-rain-in-water
-returns-then-rain-in-water g c =
+pub returns-then-rain_in-water : goal.returns-then-rain_in-water
+returns-then-rain_in-water g c =
     let water = g.S.Store.water in
     let us = c.args.units.now in
     let i = c.loop-i.i in

@@ -5,8 +5,8 @@ use Rattle.basin.proofs.routing.gather.Goals as goal
 pub bounds-list-site : goal.bounds-list-site
 bounds-list-site c = named_there _ _ _ _ c.index-sites-i.result c.loop-i-test.true c.index-sites-i.is c.requires.there (omega arith)
 
-pub overflow-add-list : goal.overflow-add-list
-overflow-add-list c =
+pub overflow_add-list : goal.overflow_add-list
+overflow_add-list c =
     let part = gathering_room c.loop-i.invariant c.loop-i-test.true c.requires.long c.index-sites-i.result c.index-sites-i.is (named_there _ _ _ _ c.index-sites-i.result c.loop-i-test.true c.index-sites-i.is c.requires.there (omega arith)) in
     let small = c.requires.small c.index-sites-i.result.reach in
     search rules
@@ -15,7 +15,7 @@ pub bounds-list-site-in-loop-i : goal.bounds-list-site-in-loop-i
 bounds-list-site-in-loop-i c = named_there _ _ _ _ c.index-sites-i.result c.loop-i-test.true c.index-sites-i.is c.requires.there (omega arith)
 
 pub loop-i-init : goal.loop-i-init
-loop-i-init c = gathering_none _ _ _ c.clear-reaches.ensures
+loop-i-init c = gathering_none _ _ _ c.clear_reaches.ensures
 
 pub loop-i-preserved : goal.loop-i-preserved
 loop-i-preserved c = gathering_more c.loop-i.invariant c.loop-i-test.true c.requires.long c.index-sites-i.result c.index-sites-i.is (named_there _ _ _ _ c.index-sites-i.result c.loop-i-test.true c.index-sites-i.is c.requires.there (omega arith))

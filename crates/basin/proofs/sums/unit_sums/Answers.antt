@@ -4,18 +4,18 @@ use Rattle.basin.proofs.Areas.{area_most}
 use Rattle.basin.proofs.Flowing.{units_summed_more, units_summed_all}
 use Rattle.basin.proofs.sums.unit_sums.Goals as goal
 
-pub overflow-add-sums : goal.overflow-add-sums
-overflow-add-sums c =
+pub overflow_add-sums : goal.overflow_add-sums
+overflow_add-sums c =
     let v = area_most (get_or c.args.sites.now c.loop-i.i c.index-sites-i.result) (get_or c.args.flows.now c.loop-i.i unit0).rain 18446744073709551615 (omega arith) in
     search rules
 
-pub overflow-add-sums-in-loop-i : goal.overflow-add-sums-in-loop-i
-overflow-add-sums-in-loop-i c =
+pub overflow_add-sums-in-loop-i : goal.overflow_add-sums-in-loop-i
+overflow_add-sums-in-loop-i c =
     let v = area_most (get_or c.args.sites.now c.loop-i.i c.index-sites-i.result) (get_or c.args.flows.now c.loop-i.i unit0).vapour 18446744073709551615 (omega arith) in
     search rules
 
-pub overflow-add-sums-in-loop-i-2 : goal.overflow-add-sums-in-loop-i-2
-overflow-add-sums-in-loop-i-2 c =
+pub overflow_add-sums-in-loop-i-2 : goal.overflow_add-sums-in-loop-i-2
+overflow_add-sums-in-loop-i-2 c =
     let v = area_most (get_or c.args.sites.now c.loop-i.i c.index-sites-i.result) (get_or c.args.flows.now c.loop-i.i unit0).deep 18446744073709551615 (omega arith) in
     search rules
 

@@ -2,11 +2,11 @@ use Rattle.std.proofs.Common.{arith}
 use Rattle.log.proofs.Parts.{length-line}
 use Rattle.log.proofs.line.line_length.Goals as goal
 
-pub overflow-add-result : goal.overflow-add-result
-overflow-add-result c = omega (arith, length-line (c.args.name.now, c.args.number))
+pub overflow_add-result : goal.overflow_add-result
+overflow_add-result c = omega (arith, length-line (c.args.name.now, c.args.number))
 
-pub overflow-add-result-2 : goal.overflow-add-result-2
-overflow-add-result-2 c = omega (arith, length-line (c.args.name.now, c.args.number))
+pub overflow_add-result-2 : goal.overflow_add-result-2
+overflow_add-result-2 c = omega (arith, length-line (c.args.name.now, c.args.number))
 
 pub returns : goal.returns
 returns c = omega (arith, length-line (c.args.name.now, c.args.number))

@@ -8,5 +8,5 @@ loop-rest-init c = omega (arith, length-decimal c.args.number (omega arith))
 pub loop-rest-preserved : goal.loop-rest-preserved
 loop-rest-preserved c = omega (arith, digits_more c.loop-rest.rest c.loop-rest-test.true, c.loop-rest.invariant)
 
-pub overflow-add-count : goal.overflow-add-count
-overflow-add-count c = omega (arith, decimal_short c.args.number, c.loop-rest.invariant)
+pub overflow_add-count : goal.overflow_add-count
+overflow_add-count c = omega (arith, decimal_short c.args.number, c.loop-rest.invariant)

@@ -4,7 +4,7 @@ use Rattle.log.proofs.number.put_number.Goals as goal
 
 pub loop-place-init : goal.loop-place-init
 loop-place-init c =
-    let count : c.args.at + c.digit-count.result - c.args.at ≡ length (decimal c.args.number) = omega (arith, c.digit-count.ensures) in
+    let count : c.args.at + c.digit_count.result - c.args.at ≡ length (decimal c.args.number) = omega (arith, c.digit_count.ensures) in
     ap (λ (k : ℕ). filled c.args.buffer.now c.args.at k c.args.number) count
 
 pub loop-place-preserved : goal.loop-place-preserved

@@ -6,8 +6,8 @@ use Rattle.profile.proofs.layer_turn.scaled.Goals as goal
 at_most : (want part : ℕ) → part ≤ 1000000000 → want * part / 1000000000 ≤ want
 at_most want part h = omega (arith, mul-le want part want 1000000000 (omega arith) h)
 
-pub overflow-cast-result-3 : goal.overflow-cast-result-3
-overflow-cast-result-3 c = omega (arith, at_most c.args.want c.args.part c.requires)
+pub overflow_cast-result-3 : goal.overflow_cast-result-3
+overflow_cast-result-3 c = omega (arith, at_most c.args.want c.args.part c.requires)
 
 pub returns : goal.returns
 returns c = record { value = refl; bound = at_most c.args.want c.args.part c.requires }

@@ -6,5 +6,5 @@ use Rattle.sources.proofs.bytes.half.Goals as goal
 pub returns : goal.returns
 unfolding half_at
 returns c =
-    let fits : SFits w16 c.from-le-bytes.result = search rules in
-    simp to_z-of_z c.from-le-bytes.ensures
+    let fits : SFits w16 c.from_le_bytes.result = search rules in
+    simp to_z-of_z c.from_le_bytes.ensures

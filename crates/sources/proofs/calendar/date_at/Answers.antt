@@ -4,4 +4,4 @@ use Rattle.sources.proofs.calendar.date_at.Goals as goal
 
 pub returns : goal.returns
 unfolding date_at
-returns c = omega (arith, c.saturating-sub.ensures)
+returns c = omega (arith, c.saturating_sub.ensures)

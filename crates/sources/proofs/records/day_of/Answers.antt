@@ -14,7 +14,7 @@ returns-in-Ok c =
     let f = figures_at c.args.date c.args.bytes.now 0 in
     let high : SFits w16 c.half-highest.result = search rules in
     let low : SFits w16 c.half-lowest.result = search rules in
-    let made = handed (Ok c.in-Ok.day) f _ _ _ _ _ (omega arith) c.word-rain.type-inv high low c.word-demand.type-inv refl c.word-rain.ensures c.half-highest.ensures c.half-lowest.ensures c.word-demand.ensures c.in-Ok.ensures in
+    let made = handed (Ok c.in-Ok.day) f _ _ _ _ _ (omega arith) c.word-rain.type_inv high low c.word-demand.type_inv refl c.word-rain.ensures c.half-highest.ensures c.half-lowest.ensures c.word-demand.ensures c.in-Ok.ensures in
     ap (seen c.args.station c.args.index) (sym (sky_known f c.in-Ok.day (λ e. c.if-rain.false (c.word-rain.ensures ∙ e)) made))
 
 pub returns-in-Err : goal.returns-in-Err
@@ -22,5 +22,5 @@ returns-in-Err c =
     let f = figures_at c.args.date c.args.bytes.now 0 in
     let high : SFits w16 c.half-highest.result = search rules in
     let low : SFits w16 c.half-lowest.result = search rules in
-    let made = handed (Err c.in-Err.field-0) f _ _ _ _ _ (omega arith) c.word-rain.type-inv high low c.word-demand.type-inv refl c.word-rain.ensures c.half-highest.ensures c.half-lowest.ensures c.word-demand.ensures c.in-Err.ensures in
+    let made = handed (Err c.in-Err.field-0) f _ _ _ _ _ (omega arith) c.word-rain.type_inv high low c.word-demand.type_inv refl c.word-rain.ensures c.half-highest.ensures c.half-lowest.ensures c.word-demand.ensures c.in-Err.ensures in
     ap (seen c.args.station c.args.index) (sym (sky_outside f c.in-Err.field-0 (λ e. c.if-rain.false (c.word-rain.ensures ∙ e)) made))

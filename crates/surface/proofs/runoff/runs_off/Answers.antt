@@ -4,8 +4,8 @@ use Rattle.surface.specs.Runoff.{runoff_of}
 use Rattle.surface.proofs.Squares.{runoff_le}
 use Rattle.surface.proofs.runoff.runs_off.Goals as goal
 
-pub overflow-cast-result-then-inflow-s-2 : goal.overflow-cast-result-then-inflow-s-2
-overflow-cast-result-then-inflow-s-2 c = omega (arith, runoff_le c.args.inflow c.args.s c.if-inflow-s.true)
+pub overflow_cast-result-then-inflow-s-2 : goal.overflow_cast-result-then-inflow-s-2
+overflow_cast-result-then-inflow-s-2 c = omega (arith, runoff_le c.args.inflow c.args.s c.if-inflow-s.true)
 
 pub returns-then-inflow-s : goal.returns-then-inflow-s
 unfolding runoff_of

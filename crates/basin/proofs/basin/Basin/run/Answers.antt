@@ -12,7 +12,7 @@ returns-in-Ok g c =
     let v = view c.args.self.now in
     let us = c.args.unit_flows.now in
     let rs = c.args.reach_flows.now in
-    let s = passed_run water turns m c.args.n c.advance.result v (view c.advance.new.self) (run_fault v (length us) (length rs) c.args.n) (start_fault water v) c.clear-units.new.list us c.advance.new.unit_flows c.clear-reaches.new.list rs c.advance.new.reach_flows c.in-Ok.ensures c.clear-units.auto.list c.clear-reaches.auto.list c.advance.ensures in
+    let s = passed_run water turns m c.args.n c.advance.result v (view c.advance.new.self) (run_fault v (length us) (length rs) c.args.n) (start_fault water v) c.clear_units.new.list us c.advance.new.unit_flows c.clear_reaches.new.list rs c.advance.new.reach_flows c.in-Ok.ensures c.clear_units.auto.list c.clear_reaches.auto.list c.advance.ensures in
     record { step = s; balance = λ a cs h. balanced (then {call = run m c.args.n us rs c.advance.new.unit_flows c.advance.new.reach_flows c.advance.result} h s) }
 
 pub returns-in-Err : goal.returns-in-Err
@@ -23,5 +23,5 @@ returns-in-Err g c =
     let v = view c.args.self.now in
     let us = c.args.unit_flows.now in
     let rs = c.args.reach_flows.now in
-    let s = denied_run water turns m c.args.n c.only-stop.result v v (run_fault v (length us) (length rs) c.args.n) (start_fault water v) us rs c.in-Err.fault c.in-Err.ensures c.only-stop.ensures refl in
-    record { step = s; balance = λ a cs h. balanced (then {call = run m c.args.n us rs us rs c.only-stop.result} h s) }
+    let s = denied_run water turns m c.args.n c.only_stop.result v v (run_fault v (length us) (length rs) c.args.n) (start_fault water v) us rs c.in-Err.fault c.in-Err.ensures c.only_stop.ensures refl in
+    record { step = s; balance = λ a cs h. balanced (then {call = run m c.args.n us rs us rs c.only_stop.result} h s) }

@@ -8,5 +8,5 @@ returns c =
     let i = c.args.inflow in
     record { value = omega arith; least = omega (arith, stays_over l i); balance = omega (arith, parts_within l i) }
 
-pub overflow-sub-result : goal.overflow-sub-result
-overflow-sub-result c = omega (arith, parts_within c.args.self.now c.args.inflow)
+pub overflow_sub-result : goal.overflow_sub-result
+overflow_sub-result c = omega (arith, parts_within c.args.self.now c.args.inflow)

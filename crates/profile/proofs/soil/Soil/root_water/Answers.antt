@@ -3,8 +3,8 @@ use Rattle.profile.specs.Soils.{root_of}
 use Rattle.profile.proofs.Rows.{summed_more, summed_all, summed_le}
 use Rattle.profile.proofs.soil.Soil.root_water.Goals as goal
 
-pub overflow-add-sum : goal.overflow-add-sum
-overflow-add-sum c =
+pub overflow_add-sum : goal.overflow_add-sum
+overflow_add-sum c =
     let l = c.loop-layer in
     omega (arith, summed_le root_of c.args.self.now l.layer-index l.sum l.invariant l.auto.layer-index-end, c.layer-item.result.held.1)
 

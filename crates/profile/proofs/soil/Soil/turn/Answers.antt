@@ -3,8 +3,8 @@ use Rattle.profile.specs.Soils.{layers_water}
 use Rattle.profile.specs.Downward.{Down, down_room, down_more}
 use Rattle.profile.proofs.soil.Soil.turn.Goals as goal
 
-pub turn-row-descent-requires : goal.turn-row-descent-requires
-turn-row-descent-requires c =
+pub turn_row-descent-requires : goal.turn_row-descent-requires
+turn_row-descent-requires c =
     let k = c.args.self.now in
     let l = c.loop-i in
     (omega arith, down_room k.layers.rows k.count c.args.inflow c.args.demand l.self.layers.rows l.descent l.i c.loop-i-test.true l.invariant.1 c.requires)
@@ -12,7 +12,7 @@ turn-row-descent-requires c =
 pub loop-i-preserved : goal.loop-i-preserved
 loop-i-preserved c =
     let l = c.loop-i in
-    let t = c.turn-row-descent in
+    let t = c.turn_row-descent in
     (l.invariant.0, down_more c.args.self.now.layers.rows c.args.inflow c.args.demand l.self.layers.rows l.descent l.i t.new.self.rows t.result l.invariant.1 t.ensures)
 
 pub returns : goal.returns

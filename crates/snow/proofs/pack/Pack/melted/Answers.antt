@@ -26,8 +26,8 @@ returns-then-heat-le0 c =
       bound = omega arith;
     }
 
-pub overflow-mul-self : goal.overflow-mul-self
-overflow-mul-self c =
+pub overflow_mul-self : goal.overflow_mul-self
+overflow_mul-self c =
     let h = c.heat-heat.result in
     let e : to_z w32 (of_z w32 h) ≡ h = to_z-of_z w32 h (search rules) in
     subst (λ (x : ℤ). Fits w32 (c.args.self.now.factor * nat_abs x)) (sym e) (melt_fits _ h c.args.self.now.paced c.heat-heat.ensures.bound (rw e at c.if-heat-le0.false))

@@ -6,17 +6,17 @@ use Rattle.snow.proofs.Warm.{kept_fits, new_fits, sum_fits, next_is, next_small}
 use Rattle.snow.proofs.Melt.{pack_mild}
 use Rattle.snow.proofs.pack.Pack.warmed.Goals as goal
 
-pub overflow-mul-kept : goal.overflow-mul-kept
-overflow-mul-kept c = let p = c.args.self.now in kept_fits p.lag p.temperature p.temperature p.lags (pack_mild p) (pack_mild p)
+pub overflow_mul-kept : goal.overflow_mul-kept
+overflow_mul-kept c = let p = c.args.self.now in kept_fits p.lag p.temperature p.temperature p.lags (pack_mild p) (pack_mild p)
 
-pub overflow-mul-new : goal.overflow-mul-new
-overflow-mul-new c =
+pub overflow_mul-new : goal.overflow_mul-new
+overflow_mul-new c =
     let p = c.args.self.now in
     let m = c.mean-mean.result in
     new_fits p.lag p.temperature m p.lags (pack_mild p) (small_from 6000 m c.mean-mean.ensures.bound.0 c.mean-mean.ensures.bound.1)
 
-pub overflow-add-result : goal.overflow-add-result
-overflow-add-result c =
+pub overflow_add-result : goal.overflow_add-result
+overflow_add-result c =
     let p = c.args.self.now in
     let m = c.mean-mean.result in
     sum_fits p.lag p.temperature m p.lags (pack_mild p) (small_from 6000 m c.mean-mean.ensures.bound.0 c.mean-mean.ensures.bound.1)

@@ -5,5 +5,5 @@ use Rattle.sources.proofs.table_source.WeatherTableWeatherSource.day.Goals as go
 
 pub returns : goal.returns
 returns c =
-    let within = c.record-of.ensures.value ∙ ap (λ (l : List ℕ). record_of l c.args.index) c.block-block.ensures.value in
-    record_answers c.args.self.now c.args.station c.args.index c.in-ok-date.date _ _ c.in-ok-date.ensures within c.day-of.ensures
+    let within = c.record_of.ensures.value ∙ ap (λ (l : List ℕ). record_of l c.args.index) c.block-block.ensures.value in
+    record_answers c.args.self.now c.args.station c.args.index c.in_ok-date.date _ _ c.in_ok-date.ensures within c.day_of.ensures
