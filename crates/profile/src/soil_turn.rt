@@ -11,8 +11,8 @@ use refusals::profile::ProfileFull;
 impl Layers {
     // One day of the layer in row i, with what comes down to it.
     fn turn_row(&mut self, i: usize, above: Descent) -> Descent
-        requires i_bound { i < 10 }
-        requires vapour_bound { layers_water (take (i + 1) self.old.rows) + above.seepage + above.side + above.vapour ≤ 100000000 }
+        requires there { i < 10 }
+        requires room { layers_water (take (i + 1) self.old.rows) + above.seepage + above.side + above.vapour ≤ 100000000 }
         ensures { RowTurn self.old.rows i above self.new.rows result }
     {
         self.rows[i].turn(above)

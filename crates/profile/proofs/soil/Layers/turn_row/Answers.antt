@@ -7,4 +7,4 @@ pub turn-requires : goal.turn-requires
 turn-requires c =
     let rows = c.args.self.now.rows in
     let there : c.args.i < length rows = search rules in
-    omega (arith, c.requires.1, sum_by_more water_of rows c.args.i c.index-self-i.result there)
+    omega (arith, c.requires.room, sum_by_more water_of rows c.args.i c.index-self-i.result there)

@@ -7,7 +7,7 @@ pub turn_row-descent-requires : goal.turn_row-descent-requires
 turn_row-descent-requires c =
     let k = c.args.self.now in
     let l = c.loop-i in
-    (omega arith, down_room k.layers.rows k.count c.args.inflow c.args.demand l.self.layers.rows l.descent l.i c.loop-i-test.true l.invariant.1 c.requires)
+    record { there = omega arith; room = down_room k.layers.rows k.count c.args.inflow c.args.demand l.self.layers.rows l.descent l.i c.loop-i-test.true l.invariant.1 c.requires }
 
 pub loop-i-preserved : goal.loop-i-preserved
 loop-i-preserved c =
