@@ -18,9 +18,9 @@ use Rattle.basin.specs.Law.{stop_number}
 use Rattle.basin.specs.Run.{ReadingsWithin}
 use Rattle.basin.specs.Calls.{run, Step}
 use Rattle.law.specs.Agreement.{Fixed, fixed}
-use Rattle.log.specs.Answers.{told_of}
-use Rattle.log.specs.Log.{log_bytes}
-use Rattle.log.specs.declared.figures.LogFigures.{LogFigures}
+use Rattle.run_log.specs.Answers.{told_of}
+use Rattle.run_log.specs.Log.{log_bytes}
+use Rattle.run_log.specs.declared.figures.LogFigures.{LogFigures}
 use Rattle.trial.specs.Bare.{Bare}
 use Rattle.trial.specs.TableRuns.{TableRun, TableRunBy, open_fault}
 use Rattle.figures.specs.Small.{dry_basin, table_bytes, one_station, lasts_two_days, small_weather}

@@ -13,9 +13,9 @@ use Rattle.basin.specs.declared.answer.Answer.{Answer}
 use Rattle.basin.specs.Tables.{View}
 use Rattle.basin.specs.Calls.{run, Step}
 use Rattle.law.specs.Agreement.{fixed}
-use Rattle.log.specs.Answers.{told_of}
-use Rattle.log.specs.Log.{log_bytes}
-use Rattle.log.specs.declared.figures.LogFigures.{LogFigures}
+use Rattle.run_log.specs.Answers.{told_of}
+use Rattle.run_log.specs.Log.{log_bytes}
+use Rattle.run_log.specs.declared.figures.LogFigures.{LogFigures}
 use Rattle.trial.specs.Bare.{Bare}
 use Rattle.trial.specs.TableRuns.{TableRunBy, open_fault}
 use Rattle.figures.specs.Small.{warm_unit, small_basin, dry_basin, table_bytes, small_weather}

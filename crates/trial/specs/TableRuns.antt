@@ -13,8 +13,8 @@ use Rattle.network.specs.declared.flows.ReachFlow.{ReachFlow}
 use Rattle.basin.specs.declared.answer.Answer.{Answer}
 use Rattle.basin.specs.Tables.{View}
 use Rattle.basin.specs.Calls.{Step, run}
-use Rattle.log.specs.Answers.{told_of, only_number}
-use Rattle.log.specs.declared.figures.LogFigures.{LogFigures}
+use Rattle.run_log.specs.Answers.{told_of, only_number}
+use Rattle.run_log.specs.declared.figures.LogFigures.{LogFigures}
 
 -- bytes that are too many, or no table
 abbrev pub open_fault : List ℕ → Option Refusal

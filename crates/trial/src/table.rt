@@ -3,7 +3,7 @@ ghost use Rattle.basin.specs.Calls.{view};
 ghost use Rattle.trial.specs.TableRuns.{OpenOr, TableRunBy, open_fault};
 
 use basin::basin::Basin;
-use log::figures::LogFigures;
+use run_log::figures::LogFigures;
 use network::flows::{ReachFlow, UnitFlow};
 use refusals::table::TableFault;
 use sources::span::Span;
