@@ -43,4 +43,4 @@ two_days_run : TwoDays
 two_days_run = record { opens = table_opens; means = table_means_lem; happens = runs_two_days; two_days = only_two_days; log_is = two_days_log }
 
 pub returns : goal.returns
-returns c = record { figures = worked; two_days = two_days_run; nine_lines_lem = nine_lines_lem }
+returns c = record { figures = worked; two_days = two_days_run; nine_lines = nine_lines_lem }
