@@ -1,5 +1,5 @@
 -- The pack's next temperature as the code computes it at 32 bits: lag l, old temperature t, mean m. Assumes nothing.
-use Rattle.std.proofs.Common.{◌≡◌, ℕ, ◌+◌, ◌-◌, ◌*◌, ◌≤◌, ℤ, pos, ◌+ℤ◌, ◌*ℤ◌, arith, w32, SFits, to_z, of_z}
+use Rattle.std.proofs.Common.{◌≡◌, ℕ, ◌-◌, ◌≤◌, ℤ, pos, ◌+ℤ◌, ◌*ℤ◌, arith, w32, SFits, to_z, of_z}
 use lib.Signed.{quot_z}
 use Rattle.std.proofs.lemmas.Int.{to_z-of_z, to_z_pos}
 use Rattle.weather.proofs.Mild.{Small, small_scaled, small_sum, small_more, small_thousandth, small_fits}

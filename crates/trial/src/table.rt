@@ -3,9 +3,9 @@ ghost use Rattle.basin.specs.Calls.{view};
 ghost use Rattle.trial.specs.TableRuns.{OpenOr, TableRunBy, open_fault};
 
 use basin::basin::Basin;
-use run_log::figures::LogFigures;
 use network::flows::{ReachFlow, UnitFlow};
 use refusals::table::TableFault;
+use run_log::figures::LogFigures;
 use sources::span::Span;
 use sources::table::WeatherTable;
 use stores::store::Store;

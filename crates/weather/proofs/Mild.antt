@@ -1,5 +1,5 @@
 -- Integers of bounded size, as code computes with them at 32 bits. Assumes nothing.
-use Rattle.std.proofs.Common.{◌≡◌, ℕ, ◌+◌, ◌-◌, ◌*◌, ◌/◌, ◌^◌, ◌<◌, ◌≤◌, ◌⊎◌, ℤ, pos, negsuc, ◌+ℤ◌, ◌*ℤ◌, neg_ℤ, ◌≤ℤ◌, refl, inl, inr, arith, w32, SFits}
+use Rattle.std.proofs.Common.{◌≡◌, ℕ, ◌+◌, ◌*◌, ◌/◌, ◌^◌, ◌<◌, ◌≤◌, ◌⊎◌, ℤ, pos, negsuc, ◌+ℤ◌, ◌*ℤ◌, neg_ℤ, ◌≤ℤ◌, refl, inl, inr, arith, w32, SFits}
 use lib.Signed.{quot_z}
 use borrow.Author.Differences.{up, down, product_is, sum_is_lem, quot_is, neg_is, le_out, at_most_in, fits_in}
 use Rattle.std.proofs.lemmas.Nat.{mul-le}
