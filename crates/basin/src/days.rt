@@ -34,7 +34,7 @@ fn accept<S: Store, W: WeatherSource>(
     requires sound { Sound (length units.now) sites.now reaches.now }
     requires room { (length weather.old ≡ length sites.now) × (length demands.old ≡ length reaches.now) }
     requires few { readings.old ≤ readings_before }
-    ensures accepted { Accepted S.Store.water (W.WeatherSource.means source.now) index sites.now (record { units = units.entry.now; reaches = reaches.now }) weather.new demands.new result }
+    ensures accepted { Accepted S.Store.water (W.WeatherSource.means source.now) index sites.now (record { units = units.now; reaches = reaches.now }) weather.new demands.new result }
     ensures counted { Counted (length sites.now + length reaches.now) readings.old readings.new result }
 {
     ask_sites(source, index, sites, weather, readings)?;
@@ -62,7 +62,7 @@ fn day<S: Store + Copy, W: WeatherSource>(
     requires room { (length weather.old ≡ length sites.now) × (length demands.old ≡ length reaches.old) }
     requires lists { (length unit_day.old ≡ length sites.now) × (length reach_day.old ≡ length reaches.old) }
     requires few { readings.old ≤ readings_before }
-    ensures today { Today S.Store.water S.Store.turns (W.WeatherSource.means source.now) index sites.now (record { units = units.entry.now; reaches = reaches.old }) (record { units = units.exit.now; reaches = reaches.new }) (record { units = unit_day.new; reaches = reach_day.new }) result }
+    ensures today { Today S.Store.water S.Store.turns (W.WeatherSource.means source.now) index sites.now (record { units = units.old; reaches = reaches.old }) (record { units = units.new; reaches = reaches.new }) (record { units = unit_day.new; reaches = reach_day.new }) result }
     ensures small { result ≡ Ok tt → (j : ℕ) → j < length reach_day.new → ReachAtMost most (slice_index_or reach_day.new j flow0) }
     ensures counted { Counted (length sites.now + length reaches.old) readings.old readings.new result }
 {
@@ -105,8 +105,8 @@ pub fn run_days<S: Store + Copy, W: WeatherSource>(
     requires flows { (length unit_flows.old ≡ length sites.now) × (length reach_flows.old ≡ length reaches.old) }
     requires cleared { ((k : ℕ) → k < length unit_flows.old → slice_index_or unit_flows.old k unit0 ≡ unit0) × ((k : ℕ) → k < length reach_flows.old → slice_index_or reach_flows.old k flow0 ≡ flow0) }
     requires few { (n ≤ 3660) × (from ≤ 4294967295) }
-    ensures going { Going S.Store.water S.Store.turns (W.WeatherSource.means source.now) from sites.now (record { units = units.entry.now; reaches = reaches.old }) (record { units = units.exit.now; reaches = reaches.new }) unit_flows.new reach_flows.new result.days result.sums }
-    ensures ends { Ends S.Store.water (W.WeatherSource.means source.now) from n sites.now (record { units = units.exit.now; reaches = reaches.new }) result.days result.stop }
+    ensures going { Going S.Store.water S.Store.turns (W.WeatherSource.means source.now) from sites.now (record { units = units.old; reaches = reaches.old }) (record { units = units.new; reaches = reaches.new }) unit_flows.new reach_flows.new result.days result.sums }
+    ensures ends { Ends S.Store.water (W.WeatherSource.means source.now) from n sites.now (record { units = units.new; reaches = reaches.new }) result.days result.stop }
     ensures asked { ReadingsWithin (length sites.now + length reaches.old) result.days result.readings }
 {
     let mut readings: u64 = 0;

@@ -78,7 +78,7 @@ pub fn check_limits<S: Store>(
     added: u128,
 ) -> Result<u128, BasinFault>
     requires { (length sites.now ≡ length units.now) × ((length units.now ≤ 1024) × ((length reaches.now ≤ 256) × (added ≤ area_sums_most))) }
-    ensures { Held S.Store.water (rain_in weather.now) added sites.now (record { units = units.entry.now; reaches = reaches.now }) result }
+    ensures { Held S.Store.water (rain_in weather.now) added sites.now (record { units = units.now; reaches = reaches.now }) result }
 {
     let held = match unit_water(sites, units, weather) {
         Ok(held) => held,

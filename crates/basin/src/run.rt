@@ -54,7 +54,7 @@ pub fn run_tables<S: Store + Copy, W: WeatherSource>(
     requires flows { (length unit_flows.old ≡ length sites.now) × (length reach_flows.old ≡ length reaches.old) }
     requires cleared { ((k : ℕ) → k < length unit_flows.old → slice_index_or unit_flows.old k unit0 ≡ unit0) × ((k : ℕ) → k < length reach_flows.old → slice_index_or reach_flows.old k flow0 ≡ flow0) }
     requires few { n ≤ 3660 }
-    ensures ran { RanBy (limit_fault S.Store.water no_rain 0 sites.now (record { units = units.entry.now; reaches = reaches.old })) S.Store.water S.Store.turns (W.WeatherSource.means source.now) from n sites.now (record { units = units.entry.now; reaches = reaches.old }) (record { units = units.exit.now; reaches = reaches.new }) unit_flows.old unit_flows.new reach_flows.old reach_flows.new result }
+    ensures ran { RanBy (limit_fault S.Store.water no_rain 0 sites.now (record { units = units.old; reaches = reaches.old })) S.Store.water S.Store.turns (W.WeatherSource.means source.now) from n sites.now (record { units = units.old; reaches = reaches.old }) (record { units = units.new; reaches = reaches.new }) unit_flows.old unit_flows.new reach_flows.old reach_flows.new result }
     ensures counted { from + result.days ≤ 4294967295 }
 {
     let start = match check_limits(sites, units, reaches, &[], 0) {

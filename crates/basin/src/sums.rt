@@ -120,7 +120,7 @@ pub fn add_sums(old: Sums, more: Sums) -> Sums
 // What a day moved, in millilitres.
 pub fn day_sums(sites: &[Site], reaches: &[Reach], units: &[UnitFlow], flows: &[ReachFlow]) -> Sums
     requires { ((length units.now ≡ length sites.now) × (length sites.now ≤ 1024)) × (((length flows.now ≡ length reaches.now) × (length reaches.now ≤ 256)) × (((k : ℕ) → k < length flows.now → ReachAtMost most (slice_index_or flows.now k flow0)))) }
-    ensures value { result ≡ sums_of sites.now reaches.now (record { units = units.entry.now; reaches = flows.now }) }
+    ensures value { result ≡ sums_of sites.now reaches.now (record { units = units.now; reaches = flows.now }) }
     ensures small { SumsAtMost day_sums_most result }
 {
     add_sums(unit_sums(sites, units), reach_sums(reaches, flows))

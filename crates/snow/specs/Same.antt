@@ -12,8 +12,8 @@ use Rattle.stores.specs.Outcome.{Single, Given}
 use Rattle.fixed.proofs.Bounds.{le_at, int_le_at}
 use Rattle.stores.specs.Same.{flows_same}
 
-within : (lo hi : ℤ) {a b : ℤ} (e : a ≡ b) (x : (a ≤ℤ hi) × (lo ≤ℤ a)) (y : (b ≤ℤ hi) × (lo ≤ℤ b)) → PathP (λ j. (e j ≤ℤ hi) × (lo ≤ℤ e j)) x y
-within lo hi e x y j = (int_le_at e refl x.0 y.0 j, int_le_at refl e x.1 y.1 j)
+between_at : (lo hi : ℤ) {a b : ℤ} (e : a ≡ b) (x : (a ≤ℤ hi) × (lo ≤ℤ a)) (y : (b ≤ℤ hi) × (lo ≤ℤ b)) → PathP (λ j. (e j ≤ℤ hi) × (lo ≤ℤ e j)) x y
+between_at lo hi e x y j = (int_le_at e refl x.0 y.0 j, int_le_at refl e x.1 y.1 j)
 
 pub pack_same : (p q : Pack) → p.water ≡ q.water → p.temperature ≡ q.temperature → p.snowfall ≡ q.snowfall → p.melting ≡ q.melting → p.lag ≡ q.lag → p.factor ≡ q.factor → p ≡ q
 pack_same p q n t s m l r j = record {
@@ -24,9 +24,9 @@ pack_same p q n t s m l r j = record {
   lag = l j;
   factor = r j;
   held = le_at n refl p.held q.held j;
-  cold = within (negsuc 5999) (pos 6000) t p.cold q.cold j;
-  falls = within (negsuc 499) (pos 500) s p.falls q.falls j;
-  melts = within (negsuc 499) (pos 500) m p.melts q.melts j;
+  cold = between_at (negsuc 5999) (pos 6000) t p.cold q.cold j;
+  falls = between_at (negsuc 499) (pos 500) s p.falls q.falls j;
+  melts = between_at (negsuc 499) (pos 500) m p.melts q.melts j;
   lags = le_at l refl p.lags q.lags j;
   paced = le_at r refl p.paced q.paced j;
 }

@@ -1,6 +1,6 @@
 // How an aquifer is made, and its turn.
 ghost use Rattle.stores.specs.Groundwater.{AquiferMade, AquiferTurn};
-ghost use Rattle.std.proofs.Common.{rules, arith};
+ghost use Rattle.std.proofs.Common.{rules};
 
 use crate::aquifer::Aquifer;
 use crate::flows::Flows;
@@ -49,7 +49,7 @@ impl Store for Aquifer {
 
     ghost turns = { λ s i d w t f. AquiferTurn s i t f };
 
-    ghost root_within = { first_of (Prim.search rules, Prim.grind (arith, Self.row.coded.inj)) };
+    ghost root_within = { Prim.search rules };
 
     fn turn(&mut self, inflow: u32, _demand: u32, _day: &Day) -> Result<Flows, Overfull> {
         if inflow > LIMIT - self.water {
