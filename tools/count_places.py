@@ -11,7 +11,7 @@ PATTERNS = {
     "1 a refusal after let-else": r"let (?:Some|Ok)\([^=]*\) = [^;{]*\belse \{\s*return Err\([^;]*;",
     "1 a number for a kind": r"^ +[A-Z]\w*::[\w:()_, ]+ => \d+,$",
     "1 an arm that cannot come": r"=> unreachable!?\(\)",
-    "3 a loop that counts an index": r"^ *for \w+ in [^{\n]*\.\.[^{\n]*\{|^ *while (?!let)[^\n]*\{",
+    "3 a loop that counts an index": r"^ *for (?!_)\w+ in \(?[\w.]*\.\.|^ *while (?!let)",
     "4 a type without Debug and equality": r"#\[derive\(Clone, Copy\)\]",
     "4 a comparison field by field": r"^ *&& \w+\.\w+ (?:as \w+ )?== ",
     "6 a list cut to a length beside it": r"\[(?:0)?\.\.[\w.]+(?:count|len\(\))\]",
@@ -27,7 +27,7 @@ def functions(text):
             depth += {"(": 1, ")": -1}.get(text[end], 0)
             end += 1
         inside = re.sub(r"<[^<>]*>|\[[^\[\]]*\]|\([^()]*\)", "", text[start.end() : end - 1])
-        clauses = re.split(r"\n *\{\n|\n *\{\}|;\n", text[end:])[0]
+        clauses = re.split(r"\{\n|\n *\{\}|;\n", text[end:])[0]
         yield (
             start.group(1),
             len([p for p in inside.split(",") if p.strip()]),

@@ -1,9 +1,8 @@
 -- Over a store with one outcome a balance has one. Assumes nothing.
-use Rattle.std.proofs.Common.{◌≡◌, ℕ, ◌<◌, ◌≤◌, List, [], ◌∷◌, length, Some, None, Ok, Err, sum_by, Option, Result, sym, refl, ap, ◌∙◌, subst, inl, inr, arith}
+use Rattle.std.proofs.Common.{◌≡◌, ℕ, ◌<◌, ◌≤◌, List, ◌∷◌, length, Some, None, Ok, Err, sum_by, Option, Result, sym, refl, ap, ◌∙◌, subst, inl, inr, arith}
 use Rattle.std.proofs.lemmas.Bool.Decides.{leb_tells}
 use Rattle.refusals.specs.Refusals.{Refusal, weather_refusal}
 use Rattle.refusals.specs.declared.weather.WeatherFault.{WeatherFault}
-use Rattle.refusals.specs.declared.weather.WeatherFault.TheVariants.{NoStation, NoIndex, Missing, Outside}
 use Rattle.weather.specs.Days.{Figures, figures}
 use Rattle.weather.specs.Meaning.{Meaning, asked}
 use Rattle.weather.specs.declared.day.Day.{Day}
@@ -23,42 +22,17 @@ moved_same : (d e : Moved) → d.rain ≡ e.rain → d.flows ≡ e.flows → d �
 moved_same d e r f j = record { rain = r j; flows = f j }
 
 sums_same : (a b : Sums) → a.rain ≡ b.rain → a.side ≡ b.side → a.vapour ≡ b.vapour → a.deep ≡ b.deep → a ≡ b
-sums_same a b r s v d j = record { rain = r j; side = s j; vapour = v j; deep = d j }
+sums_same a b r s v d = grind arith
 
 balance_same : (a b : Balance) → a.days ≡ b.days → a.sums ≡ b.sums → a.start ≡ b.start → a.end ≡ b.end → a.stop ≡ b.stop → a ≡ b
 balance_same a b n m s e p j = record { days = n j; sums = m j; start = s j; end = e j; stop = p j }
 
--- equal numbers and values are one refusal of a source
-values_same : (x y : Refusal) → x ≡ y → (x.number ≡ y.number) × (x.values ≡ y.values)
-values_same x y e = (ap (λ (r : Refusal). r.number) e, ap (λ (r : Refusal). r.values) e)
-
-pair_same : {a b c d : ℕ} → ◌≡◌ {A = List ℕ} (a ∷ b ∷ []) (c ∷ d ∷ []) → (a ≡ c) × (b ≡ d)
-pair_same e = ((cc), (cc))
-
-weather_same : (x y : WeatherFault) → weather_refusal x ≡ weather_refusal y → x ≡ y
-weather_same (NoStation s i) (NoStation t k) e = let p = pair_same (values_same _ _ e).1 in λ j. NoStation (p.0 j) (p.1 j)
-weather_same (NoStation s i) (NoIndex t k) e = absurd (omega (arith, (values_same _ _ e).0))
-weather_same (NoStation s i) (Missing t k) e = absurd (omega (arith, (values_same _ _ e).0))
-weather_same (NoStation s i) (Outside t k) e = absurd (omega (arith, (values_same _ _ e).0))
-weather_same (NoIndex s i) (NoStation t k) e = absurd (omega (arith, (values_same _ _ e).0))
-weather_same (NoIndex s i) (NoIndex t k) e = let p = pair_same (values_same _ _ e).1 in λ j. NoIndex (p.0 j) (p.1 j)
-weather_same (NoIndex s i) (Missing t k) e = absurd (omega (arith, (values_same _ _ e).0))
-weather_same (NoIndex s i) (Outside t k) e = absurd (omega (arith, (values_same _ _ e).0))
-weather_same (Missing s i) (NoStation t k) e = absurd (omega (arith, (values_same _ _ e).0))
-weather_same (Missing s i) (NoIndex t k) e = absurd (omega (arith, (values_same _ _ e).0))
-weather_same (Missing s i) (Missing t k) e = let p = pair_same (values_same _ _ e).1 in λ j. Missing (p.0 j) (p.1 j)
-weather_same (Missing s i) (Outside t k) e = absurd (omega (arith, (values_same _ _ e).0))
-weather_same (Outside s i) (NoStation t k) e = absurd (omega (arith, (values_same _ _ e).0))
-weather_same (Outside s i) (NoIndex t k) e = absurd (omega (arith, (values_same _ _ e).0))
-weather_same (Outside s i) (Missing t k) e = absurd (omega (arith, (values_same _ _ e).0))
-weather_same (Outside s i) (Outside t k) e = let p = pair_same (values_same _ _ e).1 in λ j. Outside (p.0 j) (p.1 j)
-
 -- ---- one answer of the source
-refusal_same : (r : Result Figures Refusal) (x y : Refusal) → r ≡ Err x → r ≡ Err y → x ≡ y
-refusal_same r x y p q = cc
+refusal_same : (r : Result Figures Refusal) (x y : WeatherFault) → r ≡ Err (weather_refusal x) → r ≡ Err (weather_refusal y) → x ≡ y
+refusal_same r x y p q = grind arith
 
 not_both : (r : Result Figures Refusal) (f : Figures) (x : Refusal) → r ≡ Ok f → r ≡ Err x → ⊥
-not_both r f x p q = let z : ◌≡◌ {A = ℕ} 0 1 = cc in omega arith
+not_both r f x p q = cc
 
 module _ {S : Type 0} (water : S → ℕ) (turns : S → ℕ → ℕ → Day → S → Flows → Type 0) (single : Single turns) (m : Meaning) (station : ℕ) where
   same_day : (n : ℕ) (w v : Day) → asked m station n ≡ Ok (figures w) → asked m station n ≡ Ok (figures v) → w ≡ v
@@ -123,7 +97,7 @@ module _ {S : Type 0} (water : S → ℕ) (turns : S → ℕ → ℕ → Day →
   refuses_same : (n : ℕ) (t : S) (r q : Stop) → Refuses water m station n t r → Refuses water m station n t q → r ≡ q
   refuses_same n t (Table x) q a b = absurd a
   refuses_same n t (Weather x) (Table y) a b = absurd b
-  refuses_same n t (Weather x) (Weather y) a b = ap Weather (weather_same x y (refusal_same (asked m station n) (weather_refusal x) (weather_refusal y) a b))
+  refuses_same n t (Weather x) (Weather y) a b = ap Weather (refusal_same (asked m station n) x y a b)
   refuses_same n t (Weather x) (Store y) a b = absurd (not_both (asked m station n) (figures b.day) (weather_refusal x) b.seen a)
   refuses_same n t (Store x) (Table y) a b = absurd b
   refuses_same n t (Store x) (Weather y) a b = absurd (not_both (asked m station n) (figures a.day) (weather_refusal y) a.seen b)
@@ -150,7 +124,7 @@ module _ {S : Type 0} (water : S → ℕ) (turns : S → ℕ → ℕ → Day →
         same.0,
         balance_same a b
             (p.count ∙ long ∙ sym q.count)
-            (sums_same a.sums b.sums (p.rain_is ∙ sums (λ d. d.rain) ∙ sym q.rain_is) (p.side_is ∙ sums (λ d. d.flows.side) ∙ sym q.side_is) (p.vapour_is ∙ sums (λ d. d.flows.vapour) ∙ sym q.vapour_is) (p.deep_is ∙ sums (λ d. d.flows.deep) ∙ sym q.deep_is))
+            (sums_same a.sums b.sums (cc (sums (λ d. d.rain))) (cc (sums (λ d. d.flows.side))) (cc (sums (λ d. d.flows.vapour))) (cc (sums (λ d. d.flows.deep))))
             (x.start_is ∙ sym y.start_is)
             (x.end_is ∙ ap water same.0 ∙ sym y.end_is)
             (ends_same (length p.moved) t a.stop b.stop ea here),

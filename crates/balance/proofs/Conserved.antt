@@ -5,7 +5,7 @@ use Rattle.weather.specs.Meaning.{Meaning}
 use Rattle.weather.specs.declared.day.Day.{Day}
 use Rattle.stores.specs.Meaning.{limit}
 use Rattle.stores.specs.declared.flows.Flows.{Flows}
-use Rattle.balance.specs.Course.{Accepted, Days, none, more, Going, Fitting, added}
+use Rattle.balance.specs.Course.{Accepted, Days, none, more, Going, Fitting, added, no_sums}
 use Rattle.balance.specs.declared.balance.Moved.{Moved}
 use Rattle.balance.specs.declared.balance.Sums.{Sums}
 
@@ -25,23 +25,22 @@ module _ {S : Type 0} (water : S → ℕ) (turns : S → ℕ → ℕ → Day →
   -- what the days left and what they moved is what there was and what fell
   days_balance : {s t : S} {ds : List Moved} → Days water turns m station s ds t → water t + sides ds + vapours ds + deeps ds ≡ water s + rains ds
   days_balance none = omega arith
-  days_balance (more {ds} {t} {u} {d} p a) =
-      omega (arith, days_balance p, a.kept.balance, a.rain_is, sum_by-cons (λ (x : Moved). x.rain) d ds, sum_by-cons (λ (x : Moved). x.flows.side) d ds, sum_by-cons (λ (x : Moved). x.flows.vapour) d ds, sum_by-cons (λ (x : Moved). x.flows.deep) d ds)
+  days_balance (more p a) = omega (arith, days_balance p, sum_by-cons)
 
   days_rain : {s t : S} {ds : List Moved} → Days water turns m station s ds t → rains ds ≤ 1000000 * length ds
   days_rain none = omega arith
-  days_rain (more {ds} {t} {u} {d} p a) = omega (arith, days_rain p, a.rain_is, a.day.wet, sum_by-cons (λ (x : Moved). x.rain) d ds)
+  days_rain (more p a) = omega (arith, days_rain p, sum_by-cons)
 
   days_room : {s t : S} {ds : List Moved} → Days water turns m station s ds t → water s ≤ limit → water t ≤ limit
   days_room none h = h
-  days_room (more p a) h = omega (arith, a.kept.balance, a.kept.room)
+  days_room (more p a) h = omega arith
 
   module _ {s t : S} {n : ℕ} {a : Sums} (p : Going water turns m station s t n a) where
     pub going_balance : water t + a.side + a.vapour + a.deep ≡ water s + a.rain
-    going_balance = omega (arith, days_balance p.days, p.rain_is, p.side_is, p.vapour_is, p.deep_is)
+    going_balance = omega (arith, days_balance p.days)
 
     pub going_rain : a.rain ≤ 1000000 * n
-    going_rain = omega (arith, days_rain p.days, p.rain_is, p.count)
+    going_rain = omega (arith, days_rain p.days)
 
     pub going_room : water s ≤ limit → water t ≤ limit
     going_room = days_room p.days
@@ -51,24 +50,19 @@ module _ {S : Type 0} (water : S → ℕ) (turns : S → ℕ → ℕ → Day →
     going_more {u} {d} x = record {
       moved = d ∷ p.moved;
       days = more p.days (rw p.count at x);
-      count = omega (arith, p.count);
-      rain_is = omega (arith, p.rain_is, sum_by-cons (λ (y : Moved). y.rain) d p.moved);
-      side_is = omega (arith, p.side_is, sum_by-cons (λ (y : Moved). y.flows.side) d p.moved);
-      vapour_is = omega (arith, p.vapour_is, sum_by-cons (λ (y : Moved). y.flows.vapour) d p.moved);
-      deep_is = omega (arith, p.deep_is, sum_by-cons (λ (y : Moved). y.flows.deep) d p.moved);
+      count = omega arith;
+      rain_is = omega (arith, sum_by-cons);
+      side_is = omega (arith, sum_by-cons);
+      vapour_is = omega (arith, sum_by-cons);
+      deep_is = omega (arith, sum_by-cons);
     }
 
     -- the sums of a day more are far under 64 bits
     pub going_fits : {u : S} {d : Moved} → Accepted water turns m station n t u d → water s ≤ limit → n < m.days → Fitting (added a d)
-    going_fits {u} {d} x h k =
-        let most = m.some_days.1 in
-        let wet = x.day.wet in
+    going_fits x h k =
         let rain = going_rain in
         let whole = going_balance in
-        let kept = x.kept.balance in
-        let room = x.kept.room in
-        let fell = x.rain_is in
         record { rain_fits = omega arith; side_fits = omega arith; vapour_fits = omega arith; deep_fits = omega arith }
 
-  pub going_none : (s : S) → Going water turns m station s s 0 (record { rain = 0; side = 0; vapour = 0; deep = 0 })
+  pub going_none : (s : S) → Going water turns m station s s 0 no_sums
   going_none s = record { moved = []; days = none; count = refl; rain_is = refl; side_is = refl; vapour_is = refl; deep_is = refl }

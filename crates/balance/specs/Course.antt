@@ -66,6 +66,10 @@ pub data Days {S : Type 0} (water : S → ℕ) (turns : S → ℕ → ℕ → Da
   none : Days water turns m station s [] s
   more : {ds : List Moved} {t u : S} {d : Moved} → Days water turns m station s ds t → Accepted water turns m station (length ds) t u d → Days water turns m station s (d ∷ ds) u
 
+-- the sums of no days
+abbrev pub no_sums : Sums
+no_sums = record { rain = 0; side = 0; vapour = 0; deep = 0 }
+
 -- sums with a day more
 abbrev pub added : Sums → Moved → Sums
 added a d = record { rain = a.rain + d.rain; side = a.side + d.flows.side; vapour = a.vapour + d.flows.vapour; deep = a.deep + d.flows.deep }

@@ -5,14 +5,14 @@ use refusals::weather::WeatherFault;
 use stores::flows::Flows;
 
 // What one accepted day moved.
-#[derive(Clone, Copy)]
+#[derive(Clone, Copy, Debug, PartialEq, Eq)]
 pub struct Moved {
     pub rain: u32,
     pub flows: Flows,
 }
 
-// What the accepted days moved together.
-#[derive(Clone, Copy)]
+// What the accepted days moved together. A column's own: a balance knows no basin and no record of its units.
+#[derive(Clone, Copy, Debug, Default, PartialEq, Eq)]
 pub struct Sums {
     pub rain: u64,
     pub side: u64,
@@ -21,22 +21,14 @@ pub struct Sums {
 }
 
 // Why a balance stops before the last day.
-#[derive(Clone, Copy)]
+#[derive(Clone, Copy, Debug, PartialEq, Eq)]
 pub enum Stop {
     Table(TableFault),
     Weather(WeatherFault),
     Store(Overfull),
 }
 
-// The accepted days, and why no more were.
-#[derive(Clone, Copy)]
-pub(crate) struct Progress {
-    pub days: u64,
-    pub sums: Sums,
-    pub stop: Option<Stop>,
-}
-
-#[derive(Clone, Copy)]
+#[derive(Clone, Copy, Debug, Default, PartialEq, Eq)]
 pub struct Balance {
     // How many days were accepted.
     pub days: u64,

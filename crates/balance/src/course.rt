@@ -1,18 +1,22 @@
 // A column of ground through the days of a weather source.
 ghost use Rattle.std.specs.Prelude.{◌≡◌, ◌+◌, ◌≤◌};
-ghost use Rattle.balance.specs.Course.{Balanced, Course, DayOf, Ends, Fitting, Going, added};
+ghost use Rattle.std.specs.Result.{result_err};
+ghost use Rattle.balance.specs.Course.{Balanced, Course, DayOf, Ends, Fitting, Going, added, no_sums};
 ghost use Rattle.stores.specs.Meaning.{limit};
 
-use crate::balance::{Balance, Moved, Progress, Stop, Sums};
+use crate::balance::{Balance, Moved, Stop, Sums};
+use refusals::store::Overfull;
+use std::ops::AddAssign;
 use stores::store::Store;
 use weather::source::WeatherSource;
 
-impl Sums {
+impl AddAssign<Moved> for Sums {
+    ghost can_add_assign = { λ a d. Fitting (added a d) };
+
+    ghost add_assign_gives = { λ a d b. b ≡ added a d };
+
     // One day more.
-    fn add(&mut self, day: &Moved)
-        requires { Fitting (added self.old day.now) }
-        ensures { self.new ≡ added self.old day.now }
-    {
+    fn add_assign(&mut self, day: Moved) {
         self.rain += day.rain as u64;
         self.side += day.flows.side as u64;
         self.vapour += day.flows.vapour as u64;
@@ -29,50 +33,38 @@ fn one_day<S: Store, W: WeatherSource>(
 ) -> Result<Moved, Stop>
     ensures { DayOf S.Store.water S.Store.turns (W.WeatherSource.means source.now) station index column.old column.new result }
 {
-    let day = match source.day(station, index) {
-        Ok(day) => day,
-        Err(fault) => return Err(Stop::Weather(fault)),
-    };
-    match column.turn(day.rain, day.demand, &day) {
-        Ok(flows) => Ok(Moved {
-            rain: day.rain,
-            flows,
-        }),
-        Err(full) => Err(Stop::Store(full)),
-    }
+    let day = source.day(station, index)?;
+    let flows = column.turn(day.rain, day.demand, &day)?;
+    Ok(Moved {
+        rain: day.rain,
+        flows,
+    })
 }
 
-// The days of the source, one after another, to the first that is refused.
-fn run_days<S: Store, W: WeatherSource>(column: &mut S, source: &W, station: u64) -> Progress
-    requires { S.Store.water column.old ≤ limit }
-    ensures going { Going S.Store.water S.Store.turns (W.WeatherSource.means source.now) station column.old column.new result.days result.sums }
-    ensures ends { Ends S.Store.water (W.WeatherSource.means source.now) station result.days column.new result.stop }
-    ensures balance { S.Store.water column.new + result.sums.side + result.sums.vapour + result.sums.deep ≡ S.Store.water column.old + result.sums.rain }
-    ensures room { S.Store.water column.new ≤ limit }
-{
-    let mut sums = Sums {
-        rain: 0,
-        side: 0,
-        vapour: 0,
-        deep: 0,
-    };
-    let days = source.days();
-    for index in 0..days {
-        match one_day(column, source, station, index) {
-            Ok(moved) => sums.add(&moved),
-            Err(stop) => {
-                return Progress {
-                    days: index,
-                    sums,
-                    stop: Some(stop),
-                };
-            }
+impl Balance {
+    // Takes the column through the days of the source, one after another, to the first that is refused.
+    fn run<S: Store, W: WeatherSource>(
+        &mut self,
+        column: &mut S,
+        source: &W,
+        station: u64,
+    ) -> Result<(), Stop>
+        requires within { S.Store.water column.old ≤ limit }
+        requires no_days { self.old.days ≡ 0 }
+        requires no_sums { self.old.sums ≡ no_sums }
+        ensures going { Going S.Store.water S.Store.turns (W.WeatherSource.means source.now) station column.old column.new self.new.days self.new.sums }
+        ensures ends { Ends S.Store.water (W.WeatherSource.means source.now) station self.new.days column.new (result_err result) }
+        ensures start { self.new.start ≡ self.old.start }
+        ensures balance { S.Store.water column.new + self.new.sums.side + self.new.sums.vapour + self.new.sums.deep ≡ S.Store.water column.old + self.new.sums.rain }
+        ensures room { S.Store.water column.new ≤ limit }
+    {
+        // A source has no list of its days: each is asked by its index.
+        for index in 0..source.days() {
+            let moved = one_day(column, source, station, index)?;
+            self.sums += moved;
+            self.days += 1;
         }
-    }
-    Progress {
-        days,
-        sums,
-        stop: None,
+        Ok(())
     }
 }
 
@@ -81,20 +73,15 @@ pub fn run_column<S: Store, W: WeatherSource>(column: &mut S, source: &W, statio
     ensures course { Course S.Store.water S.Store.turns (W.WeatherSource.means source.now) station column.old column.new result }
     ensures balanced { Balanced result }
 {
-    let start = match column.water() {
-        Ok(water) => water as u64,
-        Err(full) => return Balance::stopped(Stop::Store(full)),
+    let Ok(start) = column.water() else {
+        return Balance::stopped(Stop::Store(Overfull));
     };
-    let progress = run_days(column, source, station);
-    match column.water() {
-        Ok(end) => Balance {
-            days: progress.days,
-            sums: progress.sums,
-            start,
-            end: end as u64,
-            stop: progress.stop,
-        },
-        // Accepted days leave room.
-        Err(_) => unreachable(),
-    }
+    let mut balance = Balance {
+        start: start as u64,
+        ..Balance::default()
+    };
+    balance.stop = balance.run(column, source, station).err();
+    // Accepted days leave room.
+    balance.end = column.water().unwrap() as u64;
+    balance
 }

@@ -4,4 +4,5 @@ pub mod agreement;
 pub mod balance;
 pub mod course;
 pub mod lines;
+pub mod stop;
 pub mod table;

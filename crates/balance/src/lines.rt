@@ -2,7 +2,7 @@
 ghost use Rattle.std.specs.Prelude.{◌≡◌, map};
 ghost use Rattle.balance.specs.Course.{balance_lines, stop_number, stopped};
 
-use crate::balance::{Balance, Stop, Sums};
+use crate::balance::{Balance, Stop};
 use refusals::refused::Refused;
 
 impl Balance {
@@ -11,16 +11,8 @@ impl Balance {
         ensures { result ≡ stopped stop }
     {
         Balance {
-            days: 0,
-            sums: Sums {
-                rain: 0,
-                side: 0,
-                vapour: 0,
-                deep: 0,
-            },
-            start: 0,
-            end: 0,
             stop: Some(stop),
+            ..Balance::default()
         }
     }
 
@@ -28,12 +20,7 @@ impl Balance {
     pub fn stop_number(&self) -> u32
         ensures { result ≡ stop_number self.now.stop }
     {
-        match self.stop {
-            None => 0,
-            Some(Stop::Table(fault)) => fault.number(),
-            Some(Stop::Weather(fault)) => fault.number(),
-            Some(Stop::Store(fault)) => fault.number(),
-        }
+        self.stop.map_or(0, |stop| stop.number())
     }
 
     // Its figures, each with its name, in the order in which they are printed.

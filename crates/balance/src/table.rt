@@ -2,9 +2,8 @@
 ghost use Rattle.balance.specs.Course.{Balanced};
 ghost use Rattle.balance.specs.Tables.{TableCourse};
 
-use crate::balance::{Balance, Stop};
+use crate::balance::Balance;
 use crate::course::run_column;
-use sources::span::Span;
 use sources::table::WeatherTable;
 use stores::store::Store;
 
@@ -13,11 +12,8 @@ pub fn run_table<S: Store>(column: &mut S, bytes: &[u8]) -> Balance
     ensures course { TableCourse S.Store.water S.Store.turns bytes.now column.old column.new result }
     ensures balanced { Balanced result }
 {
-    match Span::read(bytes) {
-        Ok(span) => {
-            let table = WeatherTable { bytes, span };
-            run_column(column, &table, 0)
-        }
-        Err(fault) => Balance::stopped(Stop::Table(fault)),
+    match WeatherTable::open(bytes) {
+        Ok(table) => run_column(column, &table, 0),
+        Err(fault) => Balance::stopped(fault.into()),
     }
 }

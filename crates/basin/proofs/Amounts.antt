@@ -1,26 +1,11 @@
 -- Pours and draws. Assumes nothing.
-use Rattle.std.proofs.Common.{◌≡◌, ℕ, ◌<◌, ltb, leb, List, length, Some, None, Ok, Err, Option, sym, ap, ◌∙◌, subst}
+use Rattle.std.proofs.Common.{◌≡◌, ℕ, ◌<◌, ltb, leb, length, None, Ok, Err, Option, sym, ap, ◌∙◌}
 use Rattle.std.proofs.lemmas.Bool.{ltb-true}
-use Rattle.refusals.specs.Refusals.{Refusal, refuse, basin_refusal}
+use Rattle.refusals.specs.Refusals.{Refusal, refuse}
 use Rattle.refusals.specs.declared.basin.BasinFault.{BasinFault}
-use Rattle.network.specs.declared.site.Site.{Site}
-use Rattle.network.specs.declared.reach.Reach.{Reach}
 use Rattle.basin.specs.Tables.{View, or_else, refused_unless, lengths_fit, tables_fault}
-use Rattle.basin.specs.Limits.{limit_fault}
 use Rattle.basin.specs.Calls.{Amounted, amount_fault, filled, unless}
 use Rattle.basin.proofs.Refusing.{both_none, unless_none}
-
--- a call that nothing refuses writes its reach
-pub accepted : {S : Type 0} {fault : Option Refusal} {j x : ℕ} {a b : View S} → None ≡ fault → b ≡ filled j x a → Amounted fault j x (Ok tt) a b
-accepted {S} {fault} {j} {x} {a} {b} e f = record { refused = e; after = subst (λ (o : Option Refusal). b ≡ unless o a (filled j x a)) e f }
-
--- a refused one leaves the basin
-pub denied : {S : Type 0} {fault : Option Refusal} {j x : ℕ} {a b : View S} (e : BasinFault) → Some (basin_refusal e) ≡ fault → b ≡ a → Amounted fault j x (Err e) a b
-denied {S} {fault} {j} {x} {a} {b} e is same = record { refused = is; after = subst (λ (o : Option Refusal). b ≡ unless o a (filled j x a)) is same }
-
--- where the first test passes, the second decides
-pub second : {p q o : Option Refusal} → None ≡ p → q ≡ o → o ≡ or_else p q
-second {p} {q} {o} e f = subst (λ (x : Option Refusal). o ≡ or_else x q) e (sym f)
 
 -- the reach of a pour or a draw that passes its first tests exists
 pub reach_there : {S : Type 0} (a : View S) (j x : ℕ) → amount_fault a j x ≡ None → j < length a.state.reaches
@@ -38,7 +23,3 @@ taken {S} {fault} {j} {x} {u} {a} {b} s = s.after ∙ ap (λ (o : Option Refusal
 -- and one that was refused left all as it was
 pub left : {S : Type 0} {fault : Option Refusal} {j x : ℕ} {e : BasinFault} {a b : View S} → Amounted fault j x (Err e) a b → b ≡ a
 left {S} {fault} {j} {x} {e} {a} {b} s = s.after ∙ ap (λ (o : Option Refusal). unless o a (filled j x a)) (sym s.refused)
-
--- limits of tables that are those of a basin
-pub limits_of : {S : Type 0} (water : S → ℕ) (rain : ℕ → ℕ) (added : ℕ) {ss ts : List Site} {us vs : List S} {rs qs : List Reach} → ss ≡ ts → us ≡ vs → rs ≡ qs → limit_fault water rain added ss (record { units = us; reaches = rs }) ≡ limit_fault water rain added ts (record { units = vs; reaches = qs })
-limits_of water rain added e f g i = limit_fault water rain added (e i) (record { units = f i; reaches = g i })

@@ -1,10 +1,14 @@
 -- Sums over the areas of the sites, as a loop comes to them. Assumes nothing.
-use Rattle.std.proofs.Common.{◌≡◌, ℕ, suc, ◌+◌, ◌*◌, ◌<◌, ◌≤◌, List, [], ◌∷◌, length, get_or, drop, ap, ◌∙◌, mul-le-mul, arith}
+use Rattle.std.proofs.Common.{◌≡◌, ℕ, suc, ◌+◌, ◌*◌, ◌<◌, ◌≤◌, List, [], ◌∷◌, length, get_or, drop, sum_by, sym, refl, ap, ◌∙◌, mul-le-mul, arith}
+use Rattle.std.specs.List.{zip}
+use Rattle.std.proofs.lemmas.List.Sums.{sum_by-cons}
 use Rattle.std.proofs.lemmas.List.{at_drop_more, at_drop_all}
 use Rattle.weather.specs.Meaning.{Meaning}
 use Rattle.network.specs.Records.{site0}
 use Rattle.network.specs.declared.site.Site.{Site}
+use Rattle.weather.specs.declared.day.Day.{Day}
 use Rattle.basin.specs.Limits.{over_area}
+use Rattle.basin.specs.Loops.{area_sums_most, rain_fallen}
 use Rattle.basin.specs.Questions.{rain_at, rain_volume}
 
 -- two lists from the place i on are what stands there and what comes after it
@@ -14,6 +18,13 @@ at_drops F xs ys i x y h l = at_drop_more (λ zs. F zs (drop i ys)) xs i x h ∙
 -- the sum from i on is that of the place i and of those after it
 pub over_area_more : {X : Type 0} (figure : X → ℕ) (ss : List Site) (xs : List X) (i : ℕ) (s : Site) (x : X) → i < length ss → i < length xs → over_area figure (drop i ss) (drop i xs) ≡ (get_or ss i s).area * figure (get_or xs i x) + over_area figure (drop (i + 1) ss) (drop (i + 1) xs)
 over_area_more figure = at_drops (over_area figure)
+
+-- it is the sum over the pairs
+pub over_area_sum : {X : Type 0} (figure : X → ℕ) (ss : List Site) (xs : List X) → over_area figure ss xs ≡ sum_by (λ (p : Site × X). p.0.area * figure p.1) (zip ss xs)
+over_area_sum figure [] xs = refl
+over_area_sum figure (s ∷ ss) [] = refl
+over_area_sum {X} figure (s ∷ ss) (x ∷ xs) =
+    ap (λ (n : ℕ). s.area * figure x + n) (over_area_sum figure ss xs) ∙ sym (sum_by-cons (λ (p : Site × X). p.0.area * figure p.1) (s, x) (zip ss xs))
 
 -- after the last site there is nothing
 pub over_area_all : {X : Type 0} (figure : X → ℕ) (ss : List Site) (xs : List X) (i : ℕ) → length ss ≤ i → over_area figure (drop i ss) (drop i xs) ≡ 0
@@ -27,6 +38,18 @@ over_area_rain figure m index (s ∷ ss) (x ∷ xs) e h =
     let one : s.area * figure x ≡ s.area * rain_at m s.station index = ap (λ n. s.area * n) (h 0 x (omega arith)) in
     let rest = over_area_rain figure m index ss xs (omega arith) (λ i z l. h (suc i) z (omega arith)) in
     omega arith
+
+-- the rain of at most 1,024 units
+pub rain_most : (ss : List Site) (ws : List Day) → length ss ≤ 1024 → rain_fallen ss ws ≤ area_sums_most
+rain_most ss ws few = let all = below ss ws in omega arith
+  where
+    below : (ss : List Site) (ws : List Day) → rain_fallen ss ws ≤ length ss * 18446744073709551616
+    below [] ws = omega arith
+    below (s ∷ ss) [] = omega arith
+    below (s ∷ ss) (w ∷ ws) =
+        let one = mul-le-mul s.sized.1 w.wet in
+        let rest = below ss ws in
+        omega arith
 
 -- a figure within a limit over the area of one site
 pub area_most : (s : Site) (x most : ℕ) → x ≤ most → s.area * x ≤ 1000000000 * most

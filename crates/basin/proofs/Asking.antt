@@ -1,5 +1,5 @@
 -- The questions of a day, as a loop asks them. Assumes nothing.
-use Rattle.std.proofs.Common.{◌≡◌, ℕ, ◌+◌, ◌<◌, ◌≤◌, List, length, get_or, drop, set, Some, Ok, Err, sym, refl, ap, ◌∙◌, arith}
+use Rattle.std.proofs.Common.{◌≡◌, ℕ, suc, ◌+◌, ◌<◌, ◌≤◌, List, [], ◌∷◌, length, get_or, drop, set, Some, Ok, Err, Result, sym, refl, ap, ◌∙◌, zero-add, arith}
 use Rattle.std.proofs.lemmas.List.{at_drop_all, get_or_default}
 use Rattle.refusals.specs.Refusals.{Refusal, at_place}
 use Rattle.refusals.specs.declared.basin.BasinFault.{BasinFault}
@@ -9,84 +9,68 @@ use Rattle.weather.specs.declared.day.Day.{Day}
 use Rattle.network.specs.Records.{site0, reach0}
 use Rattle.network.specs.declared.site.Site.{Site}
 use Rattle.network.specs.declared.reach.Reach.{Reach}
-use Rattle.basin.specs.Questions.{answer_fault, site_questions, reach_questions, demand_of, demand_at}
-use Rattle.basin.specs.Loops.{SitesAsked, ReachesAsked, Counted}
+use Rattle.basin.specs.Questions.{answer_fault, site_questions, reach_questions, place_questions, demand_of}
+use Rattle.basin.specs.Tables.{or_else}
+use Rattle.basin.specs.Loops.{SitesAnswered, ReachesAnswered, KeptAt, PlacesAsked, PlacesAnswered}
 use Rattle.basin.proofs.Places.{written_more}
 use Rattle.basin.proofs.Straying.{first_more, first_here}
 
--- ---- sites
--- the sites below i are answered, so that the first refusal is one of those from i on
-pub record SitesTold (m : Meaning) (index : ℕ) (ss : List Site) (i : ℕ) (ws : List Day) : Type 0 where
-  pub left : site_questions m index 0 ss ≡ site_questions m index i (drop i ss)
-  pub weather : (k : ℕ) (z : Day) → k < i → asked m (get_or ss k site0).station index ≡ Ok (figures (get_or ws k z))
+-- the places below i are answered, so that the first refusal is one of those from i on
+pub record Told {P K : Type 0} (station : P → ℕ) (kept : Day → K) (first : ℕ) (m : Meaning) (index : ℕ) (ps : List P) (i : ℕ) (ks : List K) : Type 0 where
+  pub left : place_questions station first m index 0 ps ≡ place_questions station first m index i (drop i ps)
+  pub told : (k : ℕ) (p : P) (z : K) → k < i → KeptAt kept m (station (get_or ps k p)) index (get_or ks k z)
 
 -- before the first question
-pub sites_none : (m : Meaning) (index : ℕ) (ss : List Site) (ws : List Day) → SitesTold m index ss 0 ws
-sites_none m index ss ws = record { left = refl; weather = λ k z h. absurd (let e : ⊥ = omega arith in e) }
+pub told_none : {P K : Type 0} (station : P → ℕ) (kept : Day → K) (first : ℕ) (m : Meaning) (index : ℕ) (ps : List P) (ks : List K) → Told station kept first m index ps 0 ks
+told_none station kept first m index ps ks = record { left = refl; told = λ k p z h. absurd (let e : ⊥ = omega arith in e) }
 
--- one site more is answered
-pub sites_more : {m : Meaning} {index : ℕ} {ss : List Site} {i : ℕ} {ws : List Day} (x : Site) (w : Day) → SitesTold m index ss i ws → i < length ss → i < length ws → x ≡ get_or ss i x → Ok (figures w) ≡ asked m x.station index → SitesTold m index ss (i + 1) (set ws i w)
-sites_more {m} {index} {ss} {i} {ws} x w t h l is answered =
-    let told : asked m (get_or ss i x).station index ≡ Ok (figures w) = sym (answered ∙ ap (λ (s : Site). asked m s.station index) is) in
-    record {
-      left = t.left ∙ first_more (site_questions m index) (λ (k : ℕ) (s : Site). answer_fault k (asked m s.station index)) (λ k s ss. refl) ss i x h (ap (answer_fault i) told);
-      weather = written_more (λ (k : ℕ) (y : Day). asked m (get_or ss k site0).station index ≡ Ok (figures y)) ws i w l t.weather (ap (λ (s : Site). asked m s.station index) (get_or_default ss i site0 x h) ∙ told);
-    }
+module _ {P K : Type 0} {station : P → ℕ} {kept : Day → K} {first : ℕ} {m : Meaning} {index : ℕ} {ps : List P} {i : ℕ} {ks : List K} (t : Told station kept first m index ps i ks) where
+  -- one place more is answered
+  pub told_more : (x : P) (w : Day) (y : K) → i < length ps → i < length ks → x ≡ get_or ps i x → Ok (figures w) ≡ asked m (station x) index → y ≡ kept w → Told station kept first m index ps (i + 1) (set ks i y)
+  told_more x w y h l is answered keeps =
+      let told : asked m (station (get_or ps i x)) index ≡ Ok (figures w) = sym (answered ∙ ap (λ (p : P). asked m (station p) index) is) in
+      record {
+        left = t.left ∙ first_more (place_questions station first m index) (λ (k : ℕ) (p : P). answer_fault (first + k) (asked m (station p) index)) (λ k p qs. refl) ps i x h (ap (answer_fault (first + i)) told);
+        told = λ k p z b. written_more (λ (k : ℕ) (v : K). (p : P) → KeptAt kept m (station (get_or ps k p)) index v) ks i y l (λ k z b p. t.told k p z b)
+            (λ p. record { day = w; seen = ap (λ (q : P). asked m (station q) index) (get_or_default ps i p x h) ∙ told; is = keeps }) k z b p;
+      }
 
--- the site at i is refused: it is the first
-pub sites_here : {m : Meaning} {index : ℕ} {ss : List Site} {i : ℕ} {ws : List Day} (x : Site) (e : Refusal) → SitesTold m index ss i ws → i < length ss → x ≡ get_or ss i x → Err e ≡ asked m x.station index → site_questions m index 0 ss ≡ Some (at_place i e)
-sites_here {m} {index} {ss} {i} {ws} x e t h is refused =
-    let told : asked m (get_or ss i x).station index ≡ Err e = sym (refused ∙ ap (λ (s : Site). asked m s.station index) is) in
-    t.left ∙ first_here (site_questions m index) (λ (k : ℕ) (s : Site). answer_fault k (asked m s.station index)) (λ k s ss. refl) ss i x (at_place i e) h (ap (answer_fault i) told)
+  -- the place at i is refused: it is the first
+  pub told_here : (x : P) (e : Refusal) → i < length ps → x ≡ get_or ps i x → Err e ≡ asked m (station x) index → place_questions station first m index 0 ps ≡ Some (at_place (first + i) e)
+  told_here x e h is refused =
+      let told : asked m (station (get_or ps i x)) index ≡ Err e = sym (refused ∙ ap (λ (p : P). asked m (station p) index) is) in
+      t.left ∙ first_here (place_questions station first m index) (λ (k : ℕ) (p : P). answer_fault (first + k) (asked m (station p) index)) (λ k p qs. refl) ps i x (at_place (first + i) e) h (ap (answer_fault (first + i)) told)
 
--- all sites are answered
-pub sites_all : {m : Meaning} {index : ℕ} {ss : List Site} {i : ℕ} {ws : List Day} → SitesTold m index ss i ws → length ss ≤ i → SitesAsked m index ss ws
-sites_all {m} {index} {ss} {i} {ws} t h = record {
-  no_fault = t.left ∙ at_drop_all (site_questions m index i) ss i h;
-  weather = λ k z l. t.weather k z (omega arith);
+  -- all places are answered
+  pub told_all : length ps ≤ i → PlacesAsked station kept first m index ps ks
+  told_all h = record {
+    no_fault = t.left ∙ at_drop_all (place_questions station first m index i) ps i h;
+    told = λ k p z l. t.told k p z (omega arith);
+  }
+
+-- ---- sites and reaches
+site_questions_are : (m : Meaning) (index i : ℕ) (ss : List Site) → place_questions (λ (s : Site). s.station) 0 m index i ss ≡ site_questions m index i ss
+site_questions_are m index i [] = refl
+site_questions_are m index i (s ∷ ss) =
+    ap (λ (n : ℕ). or_else (answer_fault n (asked m s.station index)) (place_questions (λ (z : Site). z.station) 0 m index (suc i) ss)) (zero-add i)
+    ∙ ap (or_else (answer_fault i (asked m s.station index))) (site_questions_are m index (suc i) ss)
+
+reach_questions_are : (m : Meaning) (index j : ℕ) (rs : List Reach) → place_questions (λ (r : Reach). r.channel.station) 1024 m index j rs ≡ reach_questions m index j rs
+reach_questions_are m index j [] = refl
+reach_questions_are m index j (r ∷ rs) = ap (or_else (answer_fault (1024 + j) (asked m r.channel.station index))) (reach_questions_are m index (suc j) rs)
+
+-- sites keep all of their weather
+pub sites_answered : (m : Meaning) (index : ℕ) (ss : List Site) (ws : List Day) (r : Result (Unit {0}) BasinFault) → PlacesAnswered (λ (s : Site). s.station) (λ w. w) 0 m index ss ws r → SitesAnswered m index ss ws r
+sites_answered m index ss ws (Ok u) a = record {
+  no_fault = sym (site_questions_are m index 0 ss) ∙ a.no_fault;
+  weather = λ i z h. let one = a.told i site0 z h in one.seen ∙ ap (λ (w : Day). Ok (figures w)) (sym one.is);
 }
+sites_answered m index ss ws (Err e) a = sym (site_questions_are m index 0 ss) ∙ a
 
--- ---- reaches
--- the reaches below j are answered, so that the first refusal is one of those from j on
-pub record ReachesTold (m : Meaning) (index : ℕ) (rs : List Reach) (j : ℕ) (ds : List ℕ) : Type 0 where
-  pub left : reach_questions m index 0 rs ≡ reach_questions m index j (drop j rs)
-  pub demands : (k z : ℕ) → k < j → demand_at m (get_or rs k reach0).channel.station index ≡ get_or ds k z
-
--- before the first question
-pub reaches_none : (m : Meaning) (index : ℕ) (rs : List Reach) (ds : List ℕ) → ReachesTold m index rs 0 ds
-reaches_none m index rs ds = record { left = refl; demands = λ k z h. absurd (let e : ⊥ = omega arith in e) }
-
--- one reach more is answered
-pub reaches_more : {m : Meaning} {index : ℕ} {rs : List Reach} {j : ℕ} {ds : List ℕ} (x : Reach) (w : Day) → ReachesTold m index rs j ds → j < length rs → j < length ds → x ≡ get_or rs j x → Ok (figures w) ≡ asked m x.channel.station index → ReachesTold m index rs (j + 1) (set ds j w.demand)
-reaches_more {m} {index} {rs} {j} {ds} x w t h l is answered =
-    let told : asked m (get_or rs j x).channel.station index ≡ Ok (figures w) = sym (answered ∙ ap (λ (r : Reach). asked m r.channel.station index) is) in
-    record {
-      left = t.left ∙ first_more (reach_questions m index) (λ (k : ℕ) (r : Reach). answer_fault (1024 + k) (asked m r.channel.station index)) (λ k r rs. refl) rs j x h (ap (answer_fault (1024 + j)) told);
-      demands = written_more (λ (k d : ℕ). demand_at m (get_or rs k reach0).channel.station index ≡ d) ds j w.demand l t.demands (ap (λ (r : Reach). demand_at m r.channel.station index) (get_or_default rs j reach0 x h) ∙ ap demand_of told);
-    }
-
--- the reach at j is refused: it is the first
-pub reaches_here : {m : Meaning} {index : ℕ} {rs : List Reach} {j : ℕ} {ds : List ℕ} (x : Reach) (e : Refusal) → ReachesTold m index rs j ds → j < length rs → x ≡ get_or rs j x → Err e ≡ asked m x.channel.station index → reach_questions m index 0 rs ≡ Some (at_place (1024 + j) e)
-reaches_here {m} {index} {rs} {j} {ds} x e t h is refused =
-    let told : asked m (get_or rs j x).channel.station index ≡ Err e = sym (refused ∙ ap (λ (r : Reach). asked m r.channel.station index) is) in
-    t.left ∙ first_here (reach_questions m index) (λ (k : ℕ) (r : Reach). answer_fault (1024 + k) (asked m r.channel.station index)) (λ k r rs. refl) rs j x (at_place (1024 + j) e) h (ap (answer_fault (1024 + j)) told)
-
--- all reaches are answered
-pub reaches_all : {m : Meaning} {index : ℕ} {rs : List Reach} {j : ℕ} {ds : List ℕ} → ReachesTold m index rs j ds → length rs ≤ j → ReachesAsked m index rs ds
-reaches_all {m} {index} {rs} {j} {ds} t h = record {
-  no_fault = t.left ∙ at_drop_all (reach_questions m index j) rs j h;
-  demands = λ k l. t.demands k 0 (omega arith);
+-- reaches keep the demand
+pub reaches_answered : (m : Meaning) (index : ℕ) (rs : List Reach) (ds : List ℕ) (r : Result (Unit {0}) BasinFault) → PlacesAnswered (λ (r : Reach). r.channel.station) (λ w. w.demand) 1024 m index rs ds r → ReachesAnswered m index rs ds r
+reaches_answered m index rs ds (Ok u) a = record {
+  no_fault = sym (reach_questions_are m index 0 rs) ∙ a.no_fault;
+  demands = λ j h. let one = a.told j reach0 0 h in ap demand_of one.seen ∙ sym one.is;
 }
-
--- ---- the count
--- a refused question is counted, and none after it
-pub counted_here : {X : Type 0} (n before i after : ℕ) (e : BasinFault) → i < n → after ≡ before + i → Counted {X = X} n before (after + 1) (Err e)
-counted_here n before i after e h is = record {
-  least = omega arith;
-  most = omega arith;
-  all = λ x q. absurd (let z : ◌≡◌ {A = ℕ} 0 1 = cc in let y : ⊥ = omega arith in y);
-}
-
--- all questions are counted
-pub counted_all : {X : Type 0} (n before i after : ℕ) (x : X) → n ≤ i → i ≤ n → after ≡ before + i → Counted n before after (Ok x)
-counted_all n before i after x h l is = record { least = omega arith; most = omega arith; all = λ y q. omega arith }
+reaches_answered m index rs ds (Err e) a = sym (reach_questions_are m index 0 rs) ∙ a

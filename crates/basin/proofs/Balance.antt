@@ -5,7 +5,7 @@ use Rattle.weather.specs.declared.day.Day.{Day}
 use Rattle.stores.specs.declared.flows.Flows.{Flows}
 use Rattle.network.specs.Records.{site0}
 use Rattle.basin.specs.Tables.{View}
-use Rattle.basin.specs.Calls.{Call, History, fresh, then}
+use Rattle.basin.specs.Calls.{Call, Step, History, fresh, then}
 use Rattle.basin.specs.Law.{Balanced, days_of, call_stream, call_vapour, call_deep, told_rain, poured_to, drawn_from, poured, drawn, unit_in, reach_in, unit_loss, reach_loss, call_rain, call_rain_at}
 use Rattle.basin.proofs.Booked.{Booked, booked}
 use Rattle.basin.proofs.Steady.{Steady, steady_here, steady_on}
@@ -62,3 +62,7 @@ lasting {S} {water} {turns} (then {call = call} h s) = more_lasting (lasting h) 
 pub balanced : {S : Type 0} {water : S → ℕ} {turns : S → ℕ → ℕ → Day → S → Flows → Type 0} {a b : View S} {cs : List Call} → History water turns a cs b → Balanced water a cs b
 balanced fresh = record { whole = omega arith; rain_told = refl; unit_rain = λ i h. refl; unit = λ i z h. omega arith; reach = λ j h. omega arith }
 balanced {S} {water} {turns} (then {call = call} h s) = more_balanced (lasting h) (balanced h) (booked water turns call s)
+
+-- one call more, and the balance after it
+pub balanced_on : {S : Type 0} (water : S → ℕ) (turns : S → ℕ → ℕ → Day → S → Flows → Type 0) {b c : View S} (call : Call) → Step water turns b call c → (a : View S) (cs : List Call) → History water turns a cs b → Balanced water a (call ∷ cs) c
+balanced_on water turns call s a cs h = balanced (then {call = call} h s)

@@ -1,6 +1,7 @@
 -- Days one after another: what they sum to, how much that is at most, and what was asked. Assumes nothing.
-use Rattle.std.proofs.Common.{◌≡◌, ℕ, suc, ◌+◌, ◌*◌, ◌<◌, ◌≤◌, Bool, true, false, cond, ltb, leb, List, [], ◌∷◌, length, get_or, Some, None, Ok, Err, sum_by, Option, Result, sym, refl, ap, ◌∙◌, subst, add-mul, arith}
-use Rattle.std.proofs.lemmas.Nat.{mul-le}
+use Rattle.std.proofs.Common.{◌≡◌, ℕ, suc, ◌+◌, ◌*◌, ◌^◌, ◌<◌, ◌≤◌, Bool, true, false, cond, ltb, leb, List, [], ◌∷◌, length, get_or, Some, None, Ok, Err, sum_by, Option, Result, sym, refl, ap, ◌∙◌, subst, add-mul, arith, rules}
+use Rattle.std.proofs.lemmas.List.{get_or_default}
+use Rattle.std.specs.Result.{IsOk}
 use Rattle.std.proofs.lemmas.Bool.{ltb-true, le-leb}
 use Rattle.refusals.specs.Refusals.{Refusal, refuse, refuse_at, basin_refusal}
 use Rattle.refusals.specs.declared.basin.BasinFault.{BasinFault}
@@ -9,19 +10,19 @@ use Rattle.weather.specs.Meaning.{Meaning, seen, asked}
 use Rattle.weather.specs.declared.day.Day.{Day}
 use Rattle.stores.specs.Meaning.{limit}
 use Rattle.stores.specs.declared.flows.Flows.{Flows}
+use Rattle.network.specs.Flows.{UnitsFit, ReachesFit}
 use Rattle.network.specs.Records.{unit0, flow0}
 use Rattle.network.specs.declared.site.Site.{Site}
 use Rattle.network.specs.declared.flows.UnitFlow.{UnitFlow}
 use Rattle.network.specs.declared.flows.ReachFlow.{ReachFlow}
 use Rattle.basin.specs.declared.answer.Sums.{Sums}
-use Rattle.basin.specs.declared.answer.Answer.{Answer}
 use Rattle.basin.specs.Tables.{State, or_else, refused_unless}
 use Rattle.basin.specs.Limits.{over_area, total, unit_fault, limit_fault, most, no_rain}
-use Rattle.basin.specs.Questions.{questions, site_rain, rain_volume, day_stop}
-use Rattle.basin.specs.Day.{Moved, DayOf, NoDay}
-use Rattle.basin.specs.Run.{Days, none, more, Going, ReadingsWithin, Ran, plus, nothing, sums_of, unit_plus, reach_plus, sums_over}
-use Rattle.basin.specs.Loops.{Sound, Counted, UnitAtMost, ReachAtMost, SumsAtMost, RanBy}
-use Rattle.basin.proofs.Refusing.{both_none}
+use Rattle.basin.specs.Questions.{questions, site_rain, rain_volume}
+use Rattle.basin.specs.Day.{Moved, DayOf}
+use Rattle.basin.specs.Run.{Days, none, more, Going, ReadingsWithin, plus, nothing, sums_of, unit_plus, reach_plus, sums_over}
+use Rattle.basin.specs.Loops.{Sound, Held, Counted, UnitAtMost, ReachAtMost, SumsAtMost, SumsFit}
+use Rattle.basin.proofs.Refusing.{both_none, some_none}
 use Rattle.basin.proofs.Steady.{same_day, same_days, sound_same, stream_steady}
 use Rattle.basin.proofs.Conserved.{one_of, day_balance, day_rain}
 use Rattle.basin.proofs.OneDay.{limits_keep}
@@ -60,15 +61,21 @@ reach_more a b c f g p q h = record { inflow = omega arith; outflow = omega arit
 sums_more : (a b c : ℕ) (x y : Sums) → SumsAtMost a x → SumsAtMost b y → a + b ≤ c → SumsAtMost c (plus x y)
 sums_more a b c x y p q h = record { rain = omega arith; stream = omega arith; vapour = omega arith; deep = omega arith }
 
--- bounds only grow
-pub unit_wider : {a : ℕ} (b : ℕ) {f : UnitFlow} → UnitAtMost a f → a ≤ b → UnitAtMost b f
-unit_wider b p h = record { rain = omega arith; side = omega arith; vapour = omega arith; deep = omega arith }
+-- records that are bounded can be added, place by place
+pub units_fit : {a b : ℕ} (fs gs : List UnitFlow) → ((k : ℕ) → k < length fs → UnitAtMost a (get_or fs k unit0)) → ((k : ℕ) → k < length fs → UnitAtMost b (get_or gs k unit0)) → length gs ≡ length fs → a + b < 2 ^ 64 → (k : ℕ) (d : UnitFlow) → k < length fs → UnitsFit (get_or fs k d) (get_or gs k d)
+units_fit {a} {b} fs gs p q long h k d l =
+    let f = subst (UnitAtMost a) (get_or_default fs k unit0 d l) (p k l) in
+    let g = subst (UnitAtMost b) (get_or_default gs k unit0 d (omega arith)) (q k l) in
+    record { rain = omega arith; side = omega arith; vapour = omega arith; deep = omega arith }
 
-pub reach_wider : {a : ℕ} (b : ℕ) {f : ReachFlow} → ReachAtMost a f → a ≤ b → ReachAtMost b f
-reach_wider b p h = record { inflow = omega arith; outflow = omega arith; vapour = omega arith; deep = omega arith }
+pub reaches_fit : {a b : ℕ} (fs gs : List ReachFlow) → ((k : ℕ) → k < length fs → ReachAtMost a (get_or fs k flow0)) → ((k : ℕ) → k < length fs → ReachAtMost b (get_or gs k flow0)) → length gs ≡ length fs → a + b < 2 ^ 128 → (k : ℕ) (d : ReachFlow) → k < length fs → ReachesFit (get_or fs k d) (get_or gs k d)
+reaches_fit {a} {b} fs gs p q long h k d l =
+    let f = subst (ReachAtMost a) (get_or_default fs k flow0 d l) (p k l) in
+    let g = subst (ReachAtMost b) (get_or_default gs k flow0 d (omega arith)) (q k l) in
+    record { inflow = omega arith; outflow = omega arith; vapour = omega arith; deep = omega arith }
 
-pub sums_wider : {a : ℕ} (b : ℕ) {x : Sums} → SumsAtMost a x → a ≤ b → SumsAtMost b x
-sums_wider b p h = record { rain = omega arith; stream = omega arith; vapour = omega arith; deep = omega arith }
+pub sums_fit : {a b : ℕ} {x y : Sums} → SumsAtMost a x → SumsAtMost b y → a + b < 2 ^ 128 → SumsFit x y
+sums_fit p q h = record { rain = omega arith; stream = omega arith; vapour = omega arith; deep = omega arith }
 
 -- nothing is moved before the first day
 bounded_none : (us : List UnitFlow) (rs : List ReachFlow) → ((k : ℕ) → k < length us → get_or us k unit0 ≡ unit0) → ((k : ℕ) → k < length rs → get_or rs k flow0 ≡ flow0) → Bounded 0 us rs nothing
@@ -168,16 +175,6 @@ module _ {S : Type 0} {water : S → ℕ} {turns : S → ℕ → ℕ → Day →
         counted = omega arith;
       }
 
-  -- a run of few days has counted few questions
-  pub counted_few : {b : State S} {us : List UnitFlow} {rs : List ReachFlow} {d readings : ℕ} {x : Sums} → Underway water turns m from ss a b us rs d readings x → d ≤ 3660 → readings ≤ 900000000000
-  counted_few {b} {us} {rs} {d} w h =
-      let s = w.sound in
-      let few = s.few in
-      let few_reaches = s.few_reaches in
-      let was = w.counted in
-      let least = mul-le d (length ss + length b.reaches) 3660 1280 h (omega arith) in
-      omega arith
-
   -- what was asked when all days are done
   pub asked_all : {b : State S} {us : List UnitFlow} {rs : List ReachFlow} {d readings : ℕ} {x : Sums} → Underway water turns m from ss a b us rs d readings x → ReadingsWithin (length ss + length a.reaches) d readings
   asked_all {b} {us} {rs} {d} {readings} w =
@@ -202,18 +199,6 @@ module _ {S : Type 0} {water : S → ℕ} {turns : S → ℕ → ℕ → Day →
   -- a count of days by another name
   pub underway_at : {b : State S} {us : List UnitFlow} {rs : List ReachFlow} {d n readings : ℕ} {x : Sums} → Underway water turns m from ss a b us rs d readings x → d ≡ n → Underway water turns m from ss a b us rs n readings x
   underway_at {b} {us} {rs} {d} {n} {readings} {x} w e = subst (λ (k : ℕ). Underway water turns m from ss a b us rs k readings x) e w
-
-  -- a refused day leaves the run as it was
-  pub going_stopped : {b b' : State S} {us : List UnitFlow} {rs : List ReachFlow} {d readings : ℕ} {x : Sums} {e : BasinFault} → Underway water turns m from ss a b us rs d readings x → NoDay water m (from + d) ss b b' e → Going water turns m from ss a b' us rs d x
-  going_stopped {b} {b'} {us} {rs} {d} {readings} {x} w refusal = subst (λ (s : State S). Going water turns m from ss a s us rs d x) (sym refusal.same) w.going
-
--- and it is refused there
-pub stopped : {S : Type 0} {water : S → ℕ} {m : Meaning} {index : ℕ} {ss : List Site} {b b' : State S} {e : BasinFault} → NoDay water m index ss b b' e → day_stop water m index ss b' ≡ Some (basin_refusal e)
-stopped {S} {water} {m} {index} {ss} refusal = ap (λ (s : State S). day_stop water m index ss s) refusal.same ∙ refusal.why
-
--- a run that starts is a run by what the limits refuse
-pub ran_by : {S : Type 0} {water : S → ℕ} {turns : S → ℕ → ℕ → Day → S → Flows → Type 0} {m : Meaning} {from n : ℕ} {ss : List Site} {a b : State S} {us' : List UnitFlow} {rs' : List ReachFlow} {r : Answer} (o : Option Refusal) (us : List UnitFlow) (rs : List ReachFlow) → o ≡ None → Ran water turns m from n ss a b us' rs' r → RanBy o water turns m from n ss a b us us' rs rs' r
-ran_by {S} {water} {turns} {m} {from} {n} {ss} {a} {b} {us'} {rs'} {r} o us rs e ran = subst (λ (p : Option Refusal). RanBy p water turns m from n ss a b us us' rs rs' r) (sym e) ran
 
 -- ---- the limits after the days
 -- units that keep to their limit refuse nothing
@@ -271,3 +256,8 @@ module _ {S : Type 0} {water : S → ℕ} {turns : S → ℕ → ℕ → Day →
       let there = index_there m _ _ _ (d.unit 0 (one_of c.units 0 at) at).seen in
       let few = m.some_days.1 in
       omega arith
+
+-- limits that refuse nothing tell the basin's water
+pub held_ok : {S : Type 0} (water : S → ℕ) (ss : List Site) (a : State S) (r : Result ℕ BasinFault) → Held water no_rain 0 ss a r → limit_fault water no_rain 0 ss a ≡ None → IsOk r
+held_ok water ss a (Ok w) h e = search rules
+held_ok water ss a (Err x) h e = absurd (some_none (basin_refusal x) (sym h ∙ e))

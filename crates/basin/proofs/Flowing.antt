@@ -1,8 +1,8 @@
 -- What the lists of a day sum to, and the reaches routed in place, one after another. Assumes nothing.
 use Rattle.std.proofs.Common.{◌≡◌, ℕ, zero, suc, ◌+◌, ◌*◌, ◌<◌, ◌≤◌, Bool, true, false, cond, eqb, ◌≢◌, List, [], ◌∷◌, ◌++◌, length, get_or, take, drop, set, Some, None, sum_by, Option, sym, refl, ap, ◌∙◌, subst, arith, length-set, get_or-set_other, get_or-set_same, below_more, eq-eqb, eqb-true}
-use Rattle.std.proofs.lemmas.List.{at_drop_more, drop_all, drop-set-lt, get_or_default, get_or_read, length-take-le, take_all, take_more, take_more_set, take-set-le, at_drop_all}
+use Rattle.std.proofs.lemmas.List.{at_drop_more, drop-set-lt, get_or_default, length-take-le, take_all, take_more, take_more_set, take-set-le}
 use Rattle.std.proofs.lemmas.List.Sums.{sum_by-drop_more}
-use Rattle.network.specs.Records.{flow0, reach0, site0, unit0}
+use Rattle.network.specs.Records.{flow0, reach0}
 use Rattle.network.specs.declared.site.Site.{Site}
 use Rattle.network.specs.declared.reach.Reach.{Reach}
 use Rattle.network.specs.declared.flows.UnitFlow.{UnitFlow}
@@ -10,21 +10,13 @@ use Rattle.network.specs.declared.flows.ReachFlow.{ReachFlow}
 use Rattle.network.specs.Routing.{ReachDay, arriving, names, sides}
 use Rattle.basin.specs.declared.answer.Sums.{Sums}
 use Rattle.basin.specs.Limits.{over_area, most, reach_water}
-use Rattle.basin.specs.Loops.{Ahead, ReachAtMost, SumsAtMost, UnitAtMost, due, passed}
-use Rattle.basin.specs.Run.{leaving, reach_sums, stream_flow, unit_sums}
+use Rattle.basin.specs.Loops.{Ahead, ReachAtMost, SumsAtMost, due, passed}
+use Rattle.basin.specs.Run.{leaving, stream_flow}
 use Rattle.basin.proofs.Conserved.{reach_balance, reach_came}
-use Rattle.basin.proofs.Areas.{at_drops, over_area_more, over_area_all, area_most}
+use Rattle.basin.proofs.Areas.{at_drops}
 use Rattle.basin.proofs.Totals.{reach_set, stored_within}
 
 -- ---- the sums of a day
--- sums with the same four figures are the same
-sums_same : (x y : Sums) → x.rain ≡ y.rain → x.stream ≡ y.stream → x.vapour ≡ y.vapour → x.deep ≡ y.deep → x ≡ y
-sums_same x y a b c d =
-    ap (λ (n : ℕ). record { rain = n; stream = x.stream; vapour = x.vapour; deep = x.deep }) a ∙
-    ap (λ (n : ℕ). record { rain = y.rain; stream = n; vapour = x.vapour; deep = x.deep }) b ∙
-    ap (λ (n : ℕ). record { rain = y.rain; stream = y.stream; vapour = n; deep = x.deep }) c ∙
-    ap (λ (n : ℕ). record { rain = y.rain; stream = y.stream; vapour = y.vapour; deep = n }) d
-
 -- no more leaves a reach than flows out of it
 leaving_le : (o : Option ℕ) (x : ℕ) → leaving o x ≤ x
 leaving_le None x = omega arith
@@ -38,34 +30,6 @@ pub record UnitsSummed (ss : List Site) (fs : List UnitFlow) (i : ℕ) (x : Sums
   pub deep : x.deep + over_area (λ f. f.deep) (drop i ss) (drop i fs) ≡ over_area (λ f. f.deep) ss fs
   pub small : SumsAtMost (i * 20000000000000000000000000000) x
 
--- one unit more is summed
-pub units_summed_more : {ss : List Site} {fs : List UnitFlow} {i : ℕ} {x : Sums} (z : Site) → UnitsSummed ss fs i x → i < length ss → length fs ≡ length ss → UnitAtMost 18446744073709551615 (get_or fs i unit0) → UnitsSummed ss fs (i + 1) (record { rain = x.rain + (get_or ss i z).area * (get_or fs i unit0).rain; stream = x.stream; vapour = x.vapour + (get_or ss i z).area * (get_or fs i unit0).vapour; deep = x.deep + (get_or ss i z).area * (get_or fs i unit0).deep })
-units_summed_more {ss} {fs} {i} {x} z t h e b =
-    let s = get_or ss i z in
-    let f = get_or fs i unit0 in
-    let low = t.small in
-    let k : i < length fs = omega arith in
-    record {
-      rain = let n = over_area_more (λ f. f.rain) ss fs i z unit0 h k in let o = t.rain in omega arith;
-      stream = t.stream;
-      vapour = let n = over_area_more (λ f. f.vapour) ss fs i z unit0 h k in let o = t.vapour in omega arith;
-      deep = let n = over_area_more (λ f. f.deep) ss fs i z unit0 h k in let o = t.deep in omega arith;
-      small = record {
-        rain = let v = area_most s f.rain 18446744073709551615 b.rain in omega arith;
-        stream = omega arith;
-        vapour = let v = area_most s f.vapour 18446744073709551615 b.vapour in omega arith;
-        deep = let v = area_most s f.deep 18446744073709551615 b.deep in omega arith;
-      };
-    }
-
--- all units are summed
-pub units_summed_all : {ss : List Site} {fs : List UnitFlow} {i : ℕ} {x : Sums} → UnitsSummed ss fs i x → length ss ≤ i → x ≡ unit_sums ss fs
-units_summed_all {ss} {fs} {i} {x} t h = sums_same x (unit_sums ss fs)
-    (let n = over_area_all (λ f. f.rain) ss fs i h in let o = t.rain in omega arith)
-    t.stream
-    (let n = over_area_all (λ f. f.vapour) ss fs i h in let o = t.vapour in omega arith)
-    (let n = over_area_all (λ f. f.deep) ss fs i h in let o = t.deep in omega arith)
-
 -- the reaches below j are summed, and what is left gives the rest
 pub record ReachesSummed (rs : List Reach) (fs : List ReachFlow) (j : ℕ) (x : Sums) : Type 0 where
   pub rain : x.rain ≡ 0
@@ -75,29 +39,18 @@ pub record ReachesSummed (rs : List Reach) (fs : List ReachFlow) (j : ℕ) (x : 
   pub small : SumsAtMost (j * most) x
 
 -- one reach more is summed
-pub reaches_summed_more : {rs : List Reach} {fs : List ReachFlow} {j : ℕ} {x : Sums} (z : Reach) (y : ℕ) → ReachesSummed rs fs j x → j < length rs → length fs ≡ length rs → ReachAtMost most (get_or fs j flow0) → y ≡ leaving (get_or rs j z).channel.next (get_or fs j flow0).outflow → ReachesSummed rs fs (j + 1) (record { rain = x.rain; stream = x.stream + y; vapour = x.vapour + (get_or fs j flow0).vapour; deep = x.deep + (get_or fs j flow0).deep })
-reaches_summed_more {rs} {fs} {j} {x} z y t h e b l =
-    let f = get_or fs j flow0 in
+pub reaches_summed_more : {rs : List Reach} {fs : List ReachFlow} {j : ℕ} {x : Sums} (r : Reach) (f : ReachFlow) (y : ℕ) → ReachesSummed rs fs j x → j < length rs → j < length fs → r ≡ get_or rs j r → f ≡ get_or fs j f → ReachAtMost most f → y ≡ leaving r.channel.next f.outflow → ReachesSummed rs fs (j + 1) (record { rain = x.rain; stream = x.stream + y; vapour = x.vapour + f.vapour; deep = x.deep + f.deep })
+reaches_summed_more {rs} {fs} {j} {x} r f y t h k is_r is_f b l =
     let low = t.small in
-    let k : j < length fs = omega arith in
-    let less = leaving_le (get_or rs j z).channel.next f.outflow in
+    let less = leaving_le r.channel.next f.outflow in
+    let leaves : y ≡ leaving (get_or rs j r).channel.next (get_or fs j f).outflow = l ∙ ap (λ (z : Reach). leaving z.channel.next f.outflow) is_r ∙ ap (λ (g : ReachFlow). leaving (get_or rs j r).channel.next g.outflow) is_f in
     record {
       rain = t.rain;
-      stream = let n = at_drops stream_flow rs fs j z flow0 h k in let o = t.stream in omega arith;
-      vapour = let n = sum_by-drop_more (λ f. f.vapour) fs j flow0 k in let o = t.vapour in omega arith;
-      deep = let n = sum_by-drop_more (λ f. f.deep) fs j flow0 k in let o = t.deep in omega arith;
+      stream = let n = at_drops stream_flow rs fs j r f h k in let o = t.stream in omega arith;
+      vapour = let n = sum_by-drop_more (λ g. g.vapour) fs j f k in let e = ap (λ (g : ReachFlow). g.vapour) is_f in let o = t.vapour in omega arith;
+      deep = let n = sum_by-drop_more (λ g. g.deep) fs j f k in let e = ap (λ (g : ReachFlow). g.deep) is_f in let o = t.deep in omega arith;
       small = record { rain = omega arith; stream = omega arith; vapour = omega arith; deep = omega arith };
     }
-
--- all reaches are summed
-pub reaches_summed_all : {rs : List Reach} {fs : List ReachFlow} {j : ℕ} {x : Sums} → ReachesSummed rs fs j x → length fs ≡ length rs → length rs ≤ j → x ≡ reach_sums rs fs
-reaches_summed_all {rs} {fs} {j} {x} t e h =
-    let none : drop j fs ≡ [] = drop_all j fs (omega arith) in
-    sums_same x (reach_sums rs fs)
-    t.rain
-    (let n : stream_flow (drop j rs) (drop j fs) ≡ 0 = at_drop_all (λ y. stream_flow y (drop j fs)) rs j h in let o = t.stream in omega arith)
-    (let n : sum_by (λ f. f.vapour) (drop j fs) ≡ 0 = ap (sum_by (λ f. f.vapour)) none in let o = t.vapour in omega arith)
-    (let n : sum_by (λ f. f.deep) (drop j fs) ≡ 0 = ap (sum_by (λ f. f.deep)) none in let o = t.deep in omega arith)
 
 -- ---- what is due, and what is stored
 -- what is due from i on, after a write at k
@@ -289,34 +242,15 @@ pub record Gathering (ss : List Site) (fs : List UnitFlow) (i : ℕ) (list : Lis
 pub gathering_none : (ss : List Site) (fs : List UnitFlow) (list : List ReachFlow) → ((k : ℕ) → k < length list → get_or list k flow0 ≡ flow0) → Gathering ss fs 0 list
 gathering_none ss fs list clear = record { come = λ j h. let e = ap (λ y. y.inflow) (clear j h) in omega arith }
 
--- all sites are gathered
-pub gathering_all : {ss : List Site} {fs : List UnitFlow} {i : ℕ} {list : List ReachFlow} → Gathering ss fs i list → length ss ≤ i → (j : ℕ) → j < length list → (get_or list j flow0).inflow ≡ sides j ss fs
-gathering_all {ss} {fs} {i} {list} t h j l = let o = t.come j l in let n : sides j (drop i ss) (drop i fs) ≡ 0 = at_drop_all (λ y. sides j y (drop i fs)) ss i h in omega arith
-
--- the reach that the site at i names is one of n, so of m
-pub named_there : (ss : List Site) (i n m : ℕ) (s : Site) → i < length ss → s ≡ get_or ss i s → ((k : ℕ) → k < length ss → (get_or ss k site0).reach < n) → m ≡ n → s.reach < m
-named_there ss i n m s h e there long = let same = ap (λ y. y.reach) (get_or_read ss i s h e site0) in let t = there i h in omega arith
-
-module _ {ss : List Site} {fs : List UnitFlow} {i : ℕ} {list : List ReachFlow} (t : Gathering ss fs i list) (h : i < length ss) (long : length fs ≡ length ss) (s : Site) (e : s ≡ get_or ss i s) (there : s.reach < length list) where
-  -- what the site at i adds to a reach
-  side_next : (j : ℕ) → sides j (drop i ss) (drop i fs) ≡ cond (eqb s.reach j) (s.area * (get_or fs i unit0).side) 0 + sides j (drop (i + 1) ss) (drop (i + 1) fs)
-  side_next j = subst (λ y. sides j (drop i ss) (drop i fs) ≡ cond (eqb y.reach j) (y.area * (get_or fs i unit0).side) 0 + sides j (drop (i + 1) ss) (drop (i + 1) fs)) (sym e) (at_drops (sides j) ss fs i s unit0 h (omega arith))
-
-  -- what the site at i adds to its reach is a part of all that comes there
-  pub gathering_room : (get_or list s.reach flow0).inflow + s.area * (get_or fs i unit0).side ≤ sides s.reach ss fs
-  gathering_room =
-      let o = t.come s.reach there in
-      let n = side_next s.reach in
-      let same : cond (eqb s.reach s.reach) (s.area * (get_or fs i unit0).side) 0 ≡ s.area * (get_or fs i unit0).side = ap (λ b. cond b (s.area * (get_or fs i unit0).side) 0) (eq-eqb s.reach s.reach refl) in
-      omega arith
-
-  -- one site more is gathered
-  pub gathering_more : Gathering ss fs (i + 1) (passed (Some s.reach) (s.area * (get_or fs i unit0).side) list)
-  gathering_more = record {
-    come = λ j l.
-        let within : j < length list = simp length-set at l in
-        let o = t.come j within in
-        let a = added_in list s.reach (s.area * (get_or fs i unit0).side) there j in
-        let n = side_next j in
-        omega arith;
-  }
+-- one site more is gathered
+pub gathering_more : {ss : List Site} {fs : List UnitFlow} {i : ℕ} {list : List ReachFlow} (s : Site) (f : UnitFlow) → Gathering ss fs i list → i < length ss → i < length fs → s ≡ get_or ss i s → f ≡ get_or fs i f → s.reach < length list → Gathering ss fs (i + 1) (passed (Some s.reach) (s.area * f.side) list)
+gathering_more {ss} {fs} {i} {list} s f t h k is_s is_f there = record {
+  come = λ j l.
+      let within : j < length list = simp length-set at l in
+      let o = t.come j within in
+      let a = added_in list s.reach (s.area * f.side) there j in
+      let both : sides j (drop i ss) (drop i fs) ≡ cond (eqb s.reach j) (s.area * f.side) 0 + sides j (drop (i + 1) ss) (drop (i + 1) fs) =
+      subst (λ y. sides j (drop i ss) (drop i fs) ≡ cond (eqb y.reach j) (y.area * f.side) 0 + sides j (drop (i + 1) ss) (drop (i + 1) fs)) (sym is_s)
+      (subst (λ g. sides j (drop i ss) (drop i fs) ≡ cond (eqb (get_or ss i s).reach j) ((get_or ss i s).area * g.side) 0 + sides j (drop (i + 1) ss) (drop (i + 1) fs)) (sym is_f) (at_drops (sides j) ss fs i s f h k)) in
+      omega arith;
+}

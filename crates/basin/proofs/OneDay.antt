@@ -1,8 +1,7 @@
 -- A day that is accepted, and a day put together from its parts. Assumes nothing.
-use Rattle.std.proofs.Common.{◌≡◌, ℕ, zero, suc, ◌+◌, ◌*◌, ◌<◌, ◌≤◌, Bool, true, false, cond, eqb, leb, List, [], ◌∷◌, length, get_or, Some, None, Ok, Result, sym, refl, ap, ◌∙◌, subst, mul-le-mul_left, mul-add, arith}
+use Rattle.std.proofs.Common.{◌≡◌, ℕ, zero, suc, ◌+◌, ◌*◌, ◌<◌, ◌≤◌, Bool, true, false, cond, eqb, leb, List, [], ◌∷◌, length, get_or, Some, None, sym, refl, ap, ◌∙◌, subst, mul-le-mul_left, mul-add, arith}
 use Rattle.std.proofs.lemmas.Bool.{leb-true}
 use Rattle.refusals.specs.Refusals.{Refusal, refuse}
-use Rattle.refusals.specs.declared.basin.BasinFault.{BasinFault}
 use Rattle.weather.specs.Meaning.{Meaning}
 use Rattle.weather.specs.declared.day.Day.{Day}
 use Rattle.stores.specs.Meaning.{limit}
@@ -17,7 +16,7 @@ use Rattle.basin.specs.Tables.{State, or_else, refused_unless}
 use Rattle.basin.specs.Limits.{over_area, unit_water, reach_water, total, unit_fault, limit_fault, most}
 use Rattle.basin.specs.Questions.{reach_questions, rain_of, site_rain, rain_volume, day_stop}
 use Rattle.basin.specs.Day.{Moved, DayOf}
-use Rattle.basin.specs.Loops.{Sound, SitesAsked, ReachesAsked, Counted, Ready, ReachAtMost, TurnedIn, due, rain_fallen, rain_in}
+use Rattle.basin.specs.Loops.{Sound, SitesAsked, ReachesAsked, Ready, ReachAtMost, TurnedIn, due, rain_fallen, rain_in}
 use Rattle.basin.proofs.Refusing.{both_none, unless_none, cond_none}
 use Rattle.basin.proofs.Totals.{sum_ext, sides_all, as_sum, list_sum_to}
 use Rattle.basin.proofs.Conserved.{reach_came, one_of, reach_balance}
@@ -25,13 +24,6 @@ use Rattle.basin.proofs.Areas.{over_area_rain}
 use Rattle.basin.proofs.Watering.{rain_here}
 
 -- ---- questions and limits
--- all of two lists of questions
-pub counted_both : {X Y Z : Type 0} {n k before between after : ℕ} {x : X} {y : Y} (r : Result Z BasinFault) → Counted n before between (Ok x) → Counted k between after (Ok y) → Counted (n + k) before after r
-counted_both {X} {Y} {Z} {n} {k} {before} {between} {after} {x} {y} r p q =
-    let one : between ≡ before + n = p.all x refl in
-    let two : after ≡ between + k = q.all y refl in
-    record { least = omega arith; most = omega arith; all = λ z e. omega arith }
-
 -- the first unit that passes its limit is a matter of the rain at the units' places alone
 unit_fault_same : {S : Type 0} (water : S → ℕ) (r s : ℕ → ℕ) (i : ℕ) (us : List S) → ((k : ℕ) → i ≤ k → k < i + length us → r k ≡ s k) → unit_fault water r i us ≡ unit_fault water s i us
 unit_fault_same water r s i [] h = refl
@@ -92,7 +84,7 @@ at_most true x = omega arith
 at_most false x = omega arith
 
 -- no reach has more than all the side flow
-pub sides_most : (j : ℕ) (ss : List Site) (fs : List UnitFlow) → sides j ss fs ≤ over_area (λ f. f.side) ss fs
+sides_most : (j : ℕ) (ss : List Site) (fs : List UnitFlow) → sides j ss fs ≤ over_area (λ f. f.side) ss fs
 sides_most j [] fs = omega arith
 sides_most j (s ∷ ss) [] = omega arith
 sides_most j (s ∷ ss) (f ∷ fs) = let e = sides_most j ss fs in let c = at_most (eqb s.reach j) (s.area * f.side) in omega arith
@@ -111,7 +103,7 @@ side_most water (s ∷ ss) (u ∷ us) (w ∷ ws) (f ∷ fs) lu lw lf h =
     omega arith
 
 -- what was gathered is all the side flow
-pub due_side : (ss : List Site) (fs : List UnitFlow) (gs : List ReachFlow) → ((i : ℕ) → i < length ss → (get_or ss i site0).reach < length gs) → ((j : ℕ) → j < length gs → (get_or gs j flow0).inflow ≡ sides j ss fs) → due gs ≡ over_area (λ f. f.side) ss fs
+due_side : (ss : List Site) (fs : List UnitFlow) (gs : List ReachFlow) → ((i : ℕ) → i < length ss → (get_or ss i site0).reach < length gs) → ((j : ℕ) → j < length gs → (get_or gs j flow0).inflow ≡ sides j ss fs) → due gs ≡ over_area (λ f. f.side) ss fs
 due_side ss fs gs h g = as_sum due (λ f. f.inflow) refl (λ f fs. refl) gs ∙ list_sum_to (λ f. f.inflow) flow0 gs ∙ sum_ext (length gs) (λ j. (get_or gs j flow0).inflow) (λ j. sides j ss fs) g ∙ sides_all (length gs) ss fs h
 
 -- what moves through a reach is no more than what it held and what came
@@ -130,10 +122,21 @@ moved fs gs = record { units = fs; reaches = gs }
 
 module _ {S : Type 0} (water : S → ℕ) (turns : S → ℕ → ℕ → Day → S → Flows → Type 0) (m : Meaning) (index : ℕ) (ss : List Site) (us : List S) (rs : List Reach) (ws : List Day) (ds : List ℕ) (s : Sound (length us) ss rs) (lw : length ws ≡ length ss) (ready : Ready water m index ss (state us rs) ws ds) (vs : List S) (fs : List UnitFlow) (lf : length fs ≡ length ss) (turned : (i : ℕ) (z : S) (w : Day) → i < length us → TurnedIn water turns (get_or ws i w) (get_or us i z) (get_or vs i z) (get_or fs i unit0)) where
   -- all the side flow and what the reaches hold fit the basin
-  pub side_low : over_area (λ f. f.side) ss fs + reach_water rs ≤ most
+  side_low : over_area (λ f. f.side) ss fs + reach_water rs ≤ most
   side_low =
       let e = side_most water ss us ws fs s.many lw lf (λ i z w h. let b = (turned i z w h).kept.balance in omega arith) in
       let fits = ready.fits in
+      omega arith
+
+  -- so no reach is given more than fits it
+  pub sides_low : (j : ℕ) → sides j ss fs ≤ most
+  sides_low j = let low = side_low in let e = sides_most j ss fs in omega arith
+
+  -- nor are all together
+  pub due_low : (gs : List ReachFlow) → length gs ≡ length rs → ((j : ℕ) → j < length gs → (get_or gs j flow0).inflow ≡ sides j ss fs) → reach_water rs + due gs ≤ most
+  due_low gs lg gathered =
+      let low = side_low in
+      let all = due_side ss fs gs (λ i l. let e = s.site i l in omega (arith, lg)) gathered in
       omega arith
 
   -- the day, from its turns and its routing

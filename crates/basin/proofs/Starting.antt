@@ -1,10 +1,7 @@
 -- A run put together from its tests and its days. Assumes nothing.
-use Rattle.std.proofs.Common.{◌≡◌, ℕ, ◌+◌, ◌<◌, ◌≤◌, ◌&&◌, eqb, leb, List, length, get_or, Some, None, Option, sym, refl, ap, ◌∙◌, subst, arith}
+use Rattle.std.proofs.Common.{◌≡◌, ℕ, ◌+◌, ◌<◌, ◌≤◌, ◌&&◌, eqb, leb, List, length, get_or, Some, None, Option, sym, ap, ◌∙◌, subst, arith}
 use Rattle.std.proofs.lemmas.Bool.{leb-true, eqb-true, and_parts}
-use Rattle.network.specs.declared.site.Site.{Site}
-use Rattle.network.specs.declared.reach.Reach.{Reach}
-use Rattle.refusals.specs.Refusals.{Refusal, refuse, basin_refusal}
-use Rattle.refusals.specs.declared.basin.BasinFault.{BasinFault}
+use Rattle.refusals.specs.Refusals.{Refusal, refuse}
 use Rattle.weather.specs.Meaning.{Meaning}
 use Rattle.weather.specs.declared.day.Day.{Day}
 use Rattle.stores.specs.declared.flows.Flows.{Flows}
@@ -13,20 +10,12 @@ use Rattle.network.specs.declared.flows.UnitFlow.{UnitFlow}
 use Rattle.network.specs.declared.flows.ReachFlow.{ReachFlow}
 use Rattle.basin.specs.declared.answer.Answer.{Answer}
 use Rattle.basin.specs.Tables.{View, refused_unless, lengths_fit, tables_fault}
-use Rattle.basin.specs.Run.{only_stop}
-use Rattle.basin.specs.Limits.{limit_fault, no_rain}
 use Rattle.basin.specs.Loops.{RanBy, Sound}
 use Rattle.basin.specs.Calls.{RunBy, run_fault}
 use Rattle.basin.proofs.Refusing.{both_none, unless_none}
 use Rattle.basin.proofs.Soundness.{sound_with}
 
 module _ {S : Type 0} (water : S → ℕ) (turns : S → ℕ → ℕ → Day → S → Flows → Type 0) (m : Meaning) (n : ℕ) (r : Answer) (a b : View S) where
-  -- a run that its tables or numbers refuse
-  pub denied_run : (fault limits : Option Refusal) (us : List UnitFlow) (rs : List ReachFlow) (e : BasinFault) → Some (basin_refusal e) ≡ fault → r ≡ only_stop e → b ≡ a → RunBy fault limits water turns m n us us rs rs r a b
-  denied_run fault limits us rs e is only same =
-      subst (λ (o : Option Refusal). RunBy o limits water turns m n us us rs rs r a b) is
-      (record { not_started = record { why = e; why_is = refl; nothing_else = only; same = same }; unit_list = refl; reach_list = refl })
-
   -- only the lengths of the lists before a run matter once it is not refused
   any_lists : (limits : Option Refusal) (us vs us' : List UnitFlow) (rs ts rs' : List ReachFlow) → length us ≡ length vs → length rs ≡ length ts → RunBy None limits water turns m n us us' rs rs' r a b → RunBy None limits water turns m n vs us' ts rs' r a b
   any_lists None us vs us' rs ts rs' lu lr x = record { ran = x.ran; unit_list = x.unit_list ∙ lu; reach_list = x.reach_list ∙ lr; sites = x.sites; day = x.day }
@@ -71,20 +60,3 @@ run_passed a u r n e =
       reach_flows = eqb-true r (length rs) long.1;
       few = leb-true n 3660 (unless_none (leb n 3660) (refuse 56 0) both.1);
     }
-
--- tables that are those of a basin
-pub sound_of : {ss ts : List Site} {rs qs : List Reach} {n k : ℕ} → Sound n ss rs → n ≡ k → ss ≡ ts → rs ≡ qs → Sound k ts qs
-sound_of {ss} {ts} {rs} {qs} {n} {k} s e f g = subst (λ (x : ℕ). Sound x ts qs) e (subst (λ (l : List Site). Sound n l qs) f (subst (λ (l : List Reach). Sound n ss l) g s))
-
--- a run over tables that are those of a basin before and after
-pub ran_of : {S : Type 0} (water : S → ℕ) (turns : S → ℕ → ℕ → Day → S → Flows → Type 0) (m : Meaning) (from n : ℕ) (r : Answer) (us us' : List UnitFlow) (rs rs' : List ReachFlow)
-    {ss ts : List Site} {u v u' v' : List S} {q p q' p' : List Reach} → ss ≡ ts → u ≡ v → q ≡ p → u' ≡ v' → q' ≡ p' →
-    RanBy (limit_fault water no_rain 0 ss (record { units = u; reaches = q })) water turns m from n ss (record { units = u; reaches = q }) (record { units = u'; reaches = q' }) us us' rs rs' r →
-    RanBy (limit_fault water no_rain 0 ts (record { units = v; reaches = p })) water turns m from n ts (record { units = v; reaches = p }) (record { units = v'; reaches = p' }) us us' rs rs' r
-ran_of {S} water turns m from n r us us' rs rs' {ss} {ts} {u} {v} {u'} {v'} {q} {p} {q'} {p'} es eu eq eu' eq' x =
-    let R : List Site → List S → List Reach → List S → List Reach → Type 0 = λ s a b c d. RanBy (limit_fault water no_rain 0 s (record { units = a; reaches = b })) water turns m from n s (record { units = a; reaches = b }) (record { units = c; reaches = d }) us us' rs rs' r in
-    subst (λ (s : List Site). R s v p v' p') es
-    (subst (λ (a : List S). R ss a p v' p') eu
-    (subst (λ (b : List Reach). R ss u b v' p') eq
-    (subst (λ (c : List S). R ss u q c p') eu'
-    (subst (λ (d : List Reach). R ss u q u' d) eq' x))))

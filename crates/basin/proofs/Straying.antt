@@ -1,7 +1,10 @@
 -- The first refusal over a list, as a loop comes to it: what is left of the list gives it. Assumes nothing.
-use Rattle.std.proofs.Common.{◌≡◌, ℕ, suc, ◌+◌, ◌<◌, ◌≤◌, Bool, true, false, cond, ltb, List, ◌∷◌, length, get_or, drop, Some, None, Option, sym, refl, ap, ◌∙◌, add-one}
-use Rattle.std.proofs.lemmas.List.{at_drop_more, at_drop_all}
-use Rattle.std.proofs.lemmas.Bool.{lt-ltb, le-ltb}
+use Rattle.std.proofs.Common.{◌≡◌, ℕ, suc, ◌+◌, ◌<◌, Bool, true, false, cond, not, ltb, leb, List, [], ◌∷◌, length, get_or, drop, Some, None, Option, sym, refl, ap, ◌∙◌, add-one, arith}
+use Rattle.std.proofs.lemmas.List.{at_drop_more}
+use Rattle.std.proofs.lemmas.Bool.Decides.{nat_tests}
+use Rattle.std.proofs.lemmas.Iterator.Adapters.{position_from-zero}
+use Rattle.std.specs.List.{position, position_from, enumerate_from}
+use Rattle.std.specs.Option.{option_map}
 use Rattle.refusals.specs.Refusals.{Refusal, refuse}
 use Rattle.network.specs.declared.site.Site.{Site}
 use Rattle.network.specs.declared.reach.Reach.{Reach}
@@ -22,38 +25,38 @@ pub first_here : {X : Type 0} (F : ℕ → List X → Option Refusal) (t : ℕ �
 first_here F t step xs i z e h found =
     at_drop_more (F i) xs i z h ∙ (step i (get_or xs i z) (drop (i + 1) xs) ∙ ap (λ (o : Option Refusal). or_else o (F (suc i) (drop (i + 1) xs))) found)
 
--- ---- sites
-stray_step : (n i : ℕ) (s : Site) (ss : List Site) → stray_fault n i (s ∷ ss) ≡ or_else (refused_unless (ltb s.reach n) (refuse 52 i)) (stray_fault n (suc i) ss)
-stray_step n i s ss = cond_first (ltb s.reach n) (refuse 52 i) (stray_fault n (suc i) ss)
+-- ---- sites and reaches
+-- a test turned round
+turned : {X : Type 0} (a n : ℕ) (x y : X) → cond (ltb a n) x y ≡ cond (leb n a) y x
+turned a n x y = grind (arith, nat_tests)
 
--- a site whose reach exists is passed over
-pub stray_more : (n : ℕ) (ss : List Site) (i : ℕ) (z : Site) → i < length ss → (get_or ss i z).reach < n → stray_fault n i (drop i ss) ≡ stray_fault n (i + 1) (drop (i + 1) ss)
-stray_more n ss i z h there =
-    first_more (stray_fault n) (λ k s. refused_unless (ltb s.reach n) (refuse 52 k)) (stray_step n) ss i z h (ap (λ b. refused_unless b (refuse 52 i)) (lt-ltb (get_or ss i z).reach n there))
+swapped : {X : Type 0} (b : Bool) (x y : X) → cond b x y ≡ cond (not b) y x
+swapped true x y = refl
+swapped false x y = refl
 
--- one whose reach does not is the first that strays
-pub stray_here : (n : ℕ) (ss : List Site) (i : ℕ) (z : Site) → i < length ss → n ≤ (get_or ss i z).reach → stray_fault n i (drop i ss) ≡ Some (refuse 52 i)
-stray_here n ss i z h beyond =
-    first_here (stray_fault n) (λ k s. refused_unless (ltb s.reach n) (refuse 52 k)) (stray_step n) ss i z (refuse 52 i) h (ap (λ b. refused_unless b (refuse 52 i)) (le-ltb (get_or ss i z).reach n beyond))
+-- a choice of what is mapped
+mapped : {X Y : Type 0} (b : Bool) (f : X → Y) (x : X) (o : Option X) → cond b (Some (f x)) (option_map f o) ≡ option_map f (cond b (Some x) o)
+mapped true f x o = refl
+mapped false f x o = refl
 
--- after all sites none strays
-pub stray_all : (n : ℕ) (ss : List Site) (i : ℕ) → length ss ≤ i → stray_fault n i (drop i ss) ≡ None
-stray_all n ss i h = at_drop_all (stray_fault n i) ss i h
+-- the first site that strays has the first place whose reach is not one of n
+stray_from : (n i : ℕ) (ss : List Site) → stray_fault n i ss ≡ option_map (refuse 52) (position_from (λ (s : Site). leb n s.reach) i ss)
+stray_from n i [] = refl
+stray_from n i (s ∷ ss) =
+    turned s.reach n (stray_fault n (suc i) ss) (Some (refuse 52 i))
+    ∙ ap (cond (leb n s.reach) (Some (refuse 52 i))) (stray_from n (suc i) ss ∙ ap (λ k. option_map (refuse 52) (position_from (λ (z : Site). leb n z.reach) k ss)) (sym (add-one i)))
+    ∙ mapped (leb n s.reach) (refuse 52) i _
 
--- ---- reaches
-next_step : (n j : ℕ) (r : Reach) (rs : List Reach) → next_fault n j (r ∷ rs) ≡ or_else (refused_unless (lies_ahead r.channel.next j n) (refuse 53 j)) (next_fault n (suc j) rs)
-next_step n j r rs = cond_first (lies_ahead r.channel.next j n) (refuse 53 j) (next_fault n (suc j) rs)
+pub stray_first : (n : ℕ) (ss : List Site) → stray_fault n 0 ss ≡ option_map (refuse 52) (position (λ (s : Site). leb n s.reach) ss)
+stray_first n ss = stray_from n 0 ss ∙ ap (option_map (refuse 52)) (sym (position_from-zero (λ (s : Site). leb n s.reach) ss))
 
--- a reach whose next lies ahead is passed over
-pub next_more : (n : ℕ) (rs : List Reach) (j : ℕ) (z : Reach) → j < length rs → lies_ahead (get_or rs j z).channel.next j n ≡ true → next_fault n j (drop j rs) ≡ next_fault n (j + 1) (drop (j + 1) rs)
-next_more n rs j z h ahead =
-    first_more (next_fault n) (λ k r. refused_unless (lies_ahead r.channel.next k n) (refuse 53 k)) (next_step n) rs j z h (ap (λ b. refused_unless b (refuse 53 j)) ahead)
+-- the first reach whose next does not lie ahead has the first such place
+next_from : (n j : ℕ) (rs : List Reach) → next_fault n j rs ≡ option_map (refuse 53) (position_from (λ (q : ℕ × Reach). not (lies_ahead q.1.channel.next q.0 n)) j (enumerate_from j rs))
+next_from n j [] = refl
+next_from n j (r ∷ rs) =
+    swapped (lies_ahead r.channel.next j n) (next_fault n (suc j) rs) (Some (refuse 53 j))
+    ∙ ap (cond (not (lies_ahead r.channel.next j n)) (Some (refuse 53 j))) (next_from n (suc j) rs ∙ ap (λ k. option_map (refuse 53) (position_from (λ (q : ℕ × Reach). not (lies_ahead q.1.channel.next q.0 n)) k (enumerate_from k rs))) (sym (add-one j)))
+    ∙ mapped (not (lies_ahead r.channel.next j n)) (refuse 53) j _
 
--- one whose next does not is the first
-pub next_here : (n : ℕ) (rs : List Reach) (j : ℕ) (z : Reach) → j < length rs → lies_ahead (get_or rs j z).channel.next j n ≡ false → next_fault n j (drop j rs) ≡ Some (refuse 53 j)
-next_here n rs j z h behind =
-    first_here (next_fault n) (λ k r. refused_unless (lies_ahead r.channel.next k n) (refuse 53 k)) (next_step n) rs j z (refuse 53 j) h (ap (λ b. refused_unless b (refuse 53 j)) behind)
-
--- after all reaches there is none
-pub next_all : (n : ℕ) (rs : List Reach) (j : ℕ) → length rs ≤ j → next_fault n j (drop j rs) ≡ None
-next_all n rs j h = at_drop_all (next_fault n j) rs j h
+pub next_first : (n : ℕ) (rs : List Reach) → next_fault n 0 rs ≡ option_map (refuse 53) (position (λ (q : ℕ × Reach). not (lies_ahead q.1.channel.next q.0 n)) (enumerate_from 0 rs))
+next_first n rs = next_from n 0 rs ∙ ap (option_map (refuse 53)) (sym (position_from-zero (λ (q : ℕ × Reach). not (lies_ahead q.1.channel.next q.0 n)) (enumerate_from 0 rs)))

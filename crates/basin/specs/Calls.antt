@@ -1,5 +1,5 @@
 -- The three calls on a basin: when each is refused, and what it leaves. Assumes nothing.
-use Rattle.std.specs.Prelude.{◌≡◌, ℕ, ◌+◌, ◌-◌, ◌<◌, ◌&&◌, List, [], ◌∷◌, length, get_or, Some, None, Ok, Err, vec_items, Option, Result, ◌==◌, nat_le, nat_lt, slice_index_or, slice_set}
+use Rattle.std.specs.Prelude.{◌≡◌, ℕ, ◌+◌, ◌-◌, ◌<◌, ◌&&◌, List, [], ◌∷◌, length, get_or, Some, None, Ok, Err, Option, Result, ◌==◌, nat_le, nat_lt, slice_index_or, slice_set}
 use Rattle.refusals.specs.Refusals.{Refusal, refuse, basin_refusal}
 use Rattle.refusals.specs.declared.basin.BasinFault.{BasinFault}
 use Rattle.weather.specs.Meaning.{Meaning}
@@ -10,13 +10,13 @@ use Rattle.network.specs.declared.flows.UnitFlow.{UnitFlow}
 use Rattle.network.specs.declared.flows.ReachFlow.{ReachFlow}
 use Rattle.basin.specs.declared.answer.Answer.{Answer}
 use Rattle.basin.specs.declared.basin.Basin.{Basin}
-use Rattle.basin.specs.Tables.{View, or_else, refused_unless, refused_by, lengths_fit, tables_fault}
+use Rattle.basin.specs.Tables.{View, sites_of, state_of, or_else, refused_unless, refused_by, lengths_fit, tables_fault}
 use Rattle.basin.specs.Limits.{limit_fault, no_rain}
 use Rattle.basin.specs.Run.{Ran, only_stop}
 
 -- a basin as plain lists
 abbrev pub view : {S : Type 0} → Basin S → View S
-view b = record { sites = vec_items b.sites; state = record { units = vec_items b.units; reaches = vec_items b.reaches }; day = b.day }
+view b = record { sites = sites_of b.tables; state = state_of b.tables; day = b.day }
 
 -- a call, with the weather that its source means and what it answered; a run with its flow lists before and after
 pub data Call : Type 0 where

@@ -1,5 +1,5 @@
 -- What the steps of a day and of a run promise each other. Assumes nothing.
-use Rattle.std.specs.Prelude.{◌≡◌, ℕ, zero, suc, ◌+◌, ◌*◌, ◌<◌, ◌≤◌, List, [], ◌∷◌, length, get_or, Some, None, Ok, Err, Option, Result, slice_index, slice_index_or, slice_set}
+use Rattle.std.specs.Prelude.{◌≡◌, ℕ, zero, suc, ◌+◌, ◌*◌, ◌^◌, ◌<◌, ◌≤◌, List, [], ◌∷◌, length, get_or, take, Some, None, Ok, Err, Option, Result, slice_index, slice_index_or, slice_set}
 use Rattle.refusals.specs.Refusals.{Refusal, basin_refusal}
 use Rattle.refusals.specs.declared.basin.BasinFault.{BasinFault}
 use Rattle.weather.specs.Days.{figures}
@@ -7,16 +7,17 @@ use Rattle.weather.specs.Meaning.{Meaning, asked}
 use Rattle.weather.specs.declared.day.Day.{Day}
 use Rattle.stores.specs.Meaning.{Kept, limit}
 use Rattle.stores.specs.declared.flows.Flows.{Flows}
-use Rattle.network.specs.Records.{site0, reach0, flow0}
+use Rattle.network.specs.Records.{site0, reach0, unit0, flow0}
 use Rattle.network.specs.declared.site.Site.{Site}
 use Rattle.network.specs.declared.reach.Reach.{Reach}
 use Rattle.network.specs.declared.flows.UnitFlow.{UnitFlow}
 use Rattle.network.specs.declared.flows.ReachFlow.{ReachFlow}
 use Rattle.basin.specs.declared.answer.Sums.{Sums}
 use Rattle.basin.specs.declared.answer.Answer.{Answer}
-use Rattle.basin.specs.Tables.{State}
+use Rattle.basin.specs.declared.tables.Tables.{Tables}
+use Rattle.basin.specs.Tables.{State, sites_of, state_of}
 use Rattle.basin.specs.Limits.{over_area, unit_water, unit_fault, limit_fault, total, most}
-use Rattle.basin.specs.Questions.{site_questions, reach_questions, demand_at, day_stop}
+use Rattle.basin.specs.Questions.{site_questions, reach_questions, place_questions, demand_at, day_stop}
 use Rattle.basin.specs.Day.{flows_of}
 use Rattle.basin.specs.Run.{Ran, only_stop}
 
@@ -34,6 +35,21 @@ pub record Sound (units : ℕ) (ss : List Site) (rs : List Reach) : Type 0 where
   pub few_reaches : length rs ≤ 256
   pub site : (i : ℕ) → i < length ss → (get_or ss i site0).reach < length rs
   pub next : (j : ℕ) → j < length rs → Ahead (get_or rs j reach0).channel.next j (length rs)
+
+-- the tables of a basin that fit together
+abbrev pub SoundTables : {S : Type 0} → Tables S → Type 0
+SoundTables t = Sound (length (state_of t).units) (sites_of t) (state_of t).reaches
+
+-- how many questions a day has
+abbrev pub places : {S : Type 0} → Tables S → ℕ
+places t = length (sites_of t) + length (state_of t).reaches
+
+-- the flow lists with which a run begins: a record for each place, and all of it zero
+pub record Blank {S : Type 0} (t : Tables S) (us : List UnitFlow) (rs : List ReachFlow) : Type 0 where
+  pub units_long : length us ≡ length (sites_of t)
+  pub reaches_long : length rs ≡ length (state_of t).reaches
+  pub units : (k : ℕ) → k < length us → slice_index_or us k unit0 ≡ unit0
+  pub reaches : (k : ℕ) → k < length rs → slice_index_or rs k flow0 ≡ flow0
 
 -- ---- questions
 -- every site's question is answered, and the weather stands in the table
@@ -54,6 +70,21 @@ pub record ReachesAsked (m : Meaning) (index : ℕ) (rs : List Reach) (ds : List
 abbrev pub ReachesAnswered : Meaning → ℕ → List Reach → List ℕ → Result (Unit {0}) BasinFault → Type 0
 ReachesAnswered m index rs ds (Ok _) = ReachesAsked m index rs ds
 ReachesAnswered m index rs ds (Err e) = reach_questions m index 0 rs ≡ Some (basin_refusal e)
+
+-- what is kept of the weather at a station
+pub record KeptAt {K : Type 0} (kept : Day → K) (m : Meaning) (station index : ℕ) (k : K) : Type 0 where
+  pub day : Day
+  pub seen : asked m station index ≡ Ok (figures day)
+  pub is : k ≡ kept day
+
+-- the same of any places that each have a station, numbered from `first` on
+pub record PlacesAsked {P K : Type 0} (station : P → ℕ) (kept : Day → K) (first : ℕ) (m : Meaning) (index : ℕ) (ps : List P) (ks : List K) : Type 0 where
+  pub no_fault : place_questions station first m index 0 ps ≡ None
+  pub told : (i : ℕ) (p : P) (k : K) → i < length ps → KeptAt kept m (station (slice_index_or ps i p)) index (slice_index_or ks i k)
+
+abbrev pub PlacesAnswered : {P K : Type 0} → (P → ℕ) → (Day → K) → ℕ → Meaning → ℕ → List P → List K → Result (Unit {0}) BasinFault → Type 0
+PlacesAnswered station kept first m index ps ks (Ok _) = PlacesAsked station kept first m index ps ks
+PlacesAnswered station kept first m index ps ks (Err e) = place_questions station first m index 0 ps ≡ Some (basin_refusal e)
 
 -- how a count moves by at most n questions: by all of them where all were answered
 pub record Counted {X : Type 0} (n before after : ℕ) (r : Result X BasinFault) : Type 0 where
@@ -100,6 +131,10 @@ abbrev pub Accepted : {S : Type 0} → (S → ℕ) → Meaning → ℕ → List 
 Accepted water m index ss a ws ds (Ok _) = Ready water m index ss a ws ds
 Accepted water m index ss a ws ds (Err e) = day_stop water m index ss a ≡ Some (basin_refusal e)
 
+-- the same of the tables of a basin, where the first of the weather is that of the sites and the first demands those of the reaches
+abbrev pub AcceptedIn : {S : Type 0} → (S → ℕ) → Meaning → ℕ → Tables S → List Day → List ℕ → Result (Unit {0}) BasinFault → Type 0
+AcceptedIn water m index t ws ds r = Accepted water m index (sites_of t) (state_of t) (take (length (sites_of t)) ws) (take (length (state_of t).reaches) ds) r
+
 -- ---- turns
 -- a unit turned with the day w, and its day's record
 pub record TurnedIn {S : Type 0} (water : S → ℕ) (turns : S → ℕ → ℕ → Day → S → Flows → Type 0) (w : Day) (u v : S) (f : UnitFlow) : Type 0 where
@@ -126,7 +161,7 @@ area_sums_most = 1024 * 18446744073709551616
 abbrev pub stored_most : ℕ
 stored_most = 256 * 18446744073709551616
 
--- the sums of the units and of the reaches on a day, of both together, and over a run
+-- the sums of the units and of the reaches on a day, and of both together
 abbrev pub unit_sums_most : ℕ
 unit_sums_most = 100000000000000000000000000000000
 
@@ -135,16 +170,6 @@ reach_sums_most = 256000000000000000000
 
 abbrev pub day_sums_most : ℕ
 day_sums_most = 200000000000000000000000000000000
-
-abbrev pub run_sums_most : ℕ
-run_sums_most = 1000000000000000000000000000000000000
-
--- a figure of a unit's and of a reach's record over a run
-abbrev pub unit_flow_most : ℕ
-unit_flow_most = 9000000000000000000
-
-abbrev pub reach_flow_most : ℕ
-reach_flow_most = 10000000000000000000000
 
 -- readings, and readings before a day's questions
 abbrev pub readings_most : ℕ
@@ -171,6 +196,13 @@ pub record SumsAtMost (b : ℕ) (x : Sums) : Type 0 where
   pub stream : x.stream ≤ b
   pub vapour : x.vapour ≤ b
   pub deep : x.deep ≤ b
+
+-- each figure of the sums of both fits
+pub record SumsFit (x y : Sums) : Type 0 where
+  pub rain : x.rain + y.rain < 2 ^ 128
+  pub stream : x.stream + y.stream < 2 ^ 128
+  pub vapour : x.vapour + y.vapour < 2 ^ 128
+  pub deep : x.deep + y.deep < 2 ^ 128
 
 -- ---- a run over the tables of a basin, its flow lists cleared
 pub record Standing {S : Type 0} (e : Refusal) (a b : State S) (us us' : List UnitFlow) (rs rs' : List ReachFlow) (r : Answer) : Type 0 where

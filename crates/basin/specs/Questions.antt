@@ -22,6 +22,11 @@ abbrev pub reach_questions : Meaning → ℕ → ℕ → List Reach → Option R
 reach_questions m index j [] = None
 reach_questions m index j (r ∷ rs) = or_else (answer_fault (1024 + j) (asked m r.channel.station index)) (reach_questions m index (suc j) rs)
 
+-- of places that each have a station, numbered from `first` on
+abbrev pub place_questions : {P : Type 0} → (P → ℕ) → ℕ → Meaning → ℕ → ℕ → List P → Option Refusal
+place_questions station first m index i [] = None
+place_questions station first m index i (p ∷ ps) = or_else (answer_fault (first + i) (asked m (station p) index)) (place_questions station first m index (suc i) ps)
+
 -- the sites in order, then the reaches
 abbrev pub questions : Meaning → ℕ → List Site → List Reach → Option Refusal
 questions m index ss rs = or_else (site_questions m index 0 ss) (reach_questions m index 0 rs)

@@ -5,6 +5,7 @@ use Rattle.refusals.specs.declared.basin.BasinFault.{BasinFault}
 use Rattle.weather.specs.Meaning.{Meaning}
 use Rattle.weather.specs.declared.day.Day.{Day}
 use Rattle.stores.specs.declared.flows.Flows.{Flows}
+pub use Rattle.network.specs.Flows.{unit_plus, reach_plus}
 use Rattle.network.specs.Records.{unit0, flow0}
 use Rattle.network.specs.declared.site.Site.{Site}
 use Rattle.network.specs.declared.reach.Reach.{Reach}
@@ -57,17 +58,11 @@ sums_over ss rs [] = nothing
 sums_over ss rs (f ∷ t) = plus (sums_over ss rs t) (sums_of ss rs f)
 
 -- in the unit at a place, in micrometres
-abbrev pub unit_plus : UnitFlow → UnitFlow → UnitFlow
-unit_plus x y = record { rain = x.rain + y.rain; side = x.side + y.side; vapour = x.vapour + y.vapour; deep = x.deep + y.deep }
-
 abbrev pub unit_over : ℕ → List Moved → UnitFlow
 unit_over i [] = unit0
 unit_over i (f ∷ t) = unit_plus (unit_over i t) (slice_index_or f.units i unit0)
 
 -- in the reach at a place, in millilitres
-abbrev pub reach_plus : ReachFlow → ReachFlow → ReachFlow
-reach_plus x y = record { inflow = x.inflow + y.inflow; outflow = x.outflow + y.outflow; vapour = x.vapour + y.vapour; deep = x.deep + y.deep }
-
 abbrev pub reach_over : ℕ → List Moved → ReachFlow
 reach_over j [] = flow0
 reach_over j (f ∷ t) = reach_plus (reach_over j t) (slice_index_or f.reaches j flow0)

@@ -1,14 +1,22 @@
 -- The tables of a basin, and which of them fit together. Assumes nothing.
-use Rattle.std.specs.Prelude.{ℕ, suc, ◌+◌, Bool, true, false, cond, ◌&&◌, List, [], ◌∷◌, length, Some, None, Ok, Err, Option, Result, ◌==◌, nat_le, nat_lt}
+use Rattle.std.specs.Prelude.{ℕ, suc, ◌+◌, Bool, true, false, cond, ◌&&◌, List, [], ◌∷◌, length, Some, None, Ok, Err, Option, Result, ◌==◌, nat_le, nat_lt, vec_items}
 use Rattle.refusals.specs.Refusals.{Refusal, refuse, basin_refusal}
 use Rattle.refusals.specs.declared.basin.BasinFault.{BasinFault}
 use Rattle.network.specs.declared.site.Site.{Site}
 use Rattle.network.specs.declared.reach.Reach.{Reach}
+use Rattle.basin.specs.declared.tables.Tables.{Tables}
 
 -- what the days and the calls change
 pub record State (S : Type 0) : Type 0 where
   pub units : List S
   pub reaches : List Reach
+
+-- tables as plain lists
+abbrev pub sites_of : {S : Type 0} → Tables S → List Site
+sites_of t = vec_items t.sites
+
+abbrev pub state_of : {S : Type 0} → Tables S → State S
+state_of t = record { units = vec_items t.units; reaches = vec_items t.reaches }
 
 -- what a basin holds
 pub record View (S : Type 0) : Type 0 where

@@ -1,8 +1,13 @@
 // What a run answers.
+ghost use Rattle.std.specs.Prelude.{◌≡◌};
+ghost use Rattle.basin.specs.Loops.{SumsFit};
+ghost use Rattle.basin.specs.Run.{plus};
+
 use refusals::basin::BasinFault;
+use std::ops::Add;
 
 // What the accepted days moved together, in millilitres.
-#[derive(Clone, Copy)]
+#[derive(Clone, Copy, Debug, PartialEq, Eq, Default)]
 pub struct Sums {
     pub rain: u128,
     // Outflow of the reaches without a next one.
@@ -20,7 +25,25 @@ pub const NO_SUMS: Sums = Sums {
     deep: 0,
 };
 
-#[derive(Clone, Copy)]
+// What moved on some days and on others together.
+impl Add for Sums {
+    type Output = Sums;
+
+    ghost can_add = { SumsFit };
+
+    ghost add_gives = { λ x y r. r ≡ plus x y };
+
+    fn add(self, more: Sums) -> Sums {
+        Sums {
+            rain: self.rain + more.rain,
+            stream: self.stream + more.stream,
+            vapour: self.vapour + more.vapour,
+            deep: self.deep + more.deep,
+        }
+    }
+}
+
+#[derive(Clone, Copy, Debug, PartialEq, Eq, Default)]
 pub struct Answer {
     // Days accepted.
     pub days: u64,

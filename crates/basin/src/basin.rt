@@ -6,11 +6,9 @@ ghost use Rattle.basin.specs.Calls.{Call, Holding, History, RunBy, Step, amount_
 ghost use Rattle.basin.specs.Law.{Balanced};
 
 use crate::answer::Answer;
-use crate::limits::check_limits;
-use crate::run::{only_stop, run_tables};
-use crate::sums::{clear_reaches, clear_units};
-use crate::tables::{check_tables, lengths_fit};
-use network::flows::{ReachFlow, UnitFlow};
+use crate::run::only_stop;
+use crate::tables::{Tables, check_tables};
+use network::flows::{NO_REACH_FLOW, NO_UNIT_FLOW, ReachFlow, UnitFlow};
 use network::reach::Reach;
 use network::site::Site;
 use refusals::basin::BasinFault;
@@ -24,9 +22,7 @@ const AMOUNT: u64 = 1_000_000_000_000_000;
 
 #[derive(Drop)]
 pub struct Basin<S> {
-    sites: Vec<Site>,
-    units: Vec<S>,
-    reaches: Vec<Reach>,
+    tables: Tables<S>,
     // Days accepted so far: the index at which the next run reads its source.
     day: u32,
 }
@@ -37,9 +33,11 @@ impl<S: Store + Copy> Basin<S> {
         ensures { view result ≡ record { sites = sites.items; state = record { units = units.items; reaches = reaches.items }; day = 0 } }
     {
         Basin {
-            sites,
-            units,
-            reaches,
+            tables: Tables {
+                sites,
+                units,
+                reaches,
+            },
             day: 0,
         }
     }
@@ -47,13 +45,13 @@ impl<S: Store + Copy> Basin<S> {
     pub fn units(&self) -> &[S]
         ensures { result.now ≡ (view self.now).state.units }
     {
-        &self.units
+        &self.tables.units
     }
 
     pub fn reaches(&self) -> &[Reach]
         ensures { result.now ≡ (view self.now).state.reaches }
     {
-        &self.reaches
+        &self.tables.reaches
     }
 
     // Days accepted so far.
@@ -67,10 +65,11 @@ impl<S: Store + Copy> Basin<S> {
     fn check_run(&self, unit_flows: usize, reach_flows: usize, n: u64) -> Result<(), BasinFault>
         ensures { refused_by result ≡ run_fault (view self.now) unit_flows reach_flows n }
     {
-        let fit = lengths_fit(self.sites.len(), self.units.len(), self.reaches.len())
-            && unit_flows == self.sites.len()
-            && reach_flows == self.reaches.len();
-        check_tables(fit, self.sites.as_slice(), self.reaches.as_slice())?;
+        let tables = &self.tables;
+        let fit = tables.lengths_fit()
+            && unit_flows == tables.sites.len()
+            && reach_flows == tables.reaches.len();
+        check_tables(fit, &tables.sites, &tables.reaches)?;
         if n > DAYS {
             return Err(BasinFault::Amount);
         }
@@ -86,20 +85,12 @@ impl<S: Store + Copy> Basin<S> {
         reach_flows: &mut [ReachFlow],
     ) -> Answer
         requires passed { run_fault (view self.old) (length unit_flows.old) (length reach_flows.old) n ≡ None }
-        requires cleared { ((k : ℕ) → k < length unit_flows.old → slice_index_or unit_flows.old k unit0 ≡ unit0) × ((k : ℕ) → k < length reach_flows.old → slice_index_or reach_flows.old k flow0 ≡ flow0) }
+        requires unit_zeros { (k : ℕ) → k < length unit_flows.old → slice_index_or unit_flows.old k unit0 ≡ unit0 }
+        requires reach_zeros { (k : ℕ) → k < length reach_flows.old → slice_index_or reach_flows.old k flow0 ≡ flow0 }
         ensures { RunBy None (start_fault S.Store.water (view self.old)) S.Store.water S.Store.turns (W.WeatherSource.means source.now) n unit_flows.old unit_flows.new reach_flows.old reach_flows.new result (view self.old) (view self.new) }
     {
         let from = self.day;
-        let answer = run_tables(
-            source,
-            from,
-            n,
-            self.sites.as_slice(),
-            self.units.as_mut_slice(),
-            self.reaches.as_mut_slice(),
-            unit_flows,
-            reach_flows,
-        );
+        let answer = self.tables.run(source, from, n, unit_flows, reach_flows);
         self.day = from + answer.days as u32;
         answer
     }
@@ -115,23 +106,21 @@ impl<S: Store + Copy> Basin<S> {
         ensures step { Step S.Store.water S.Store.turns (view self.old) (run (W.WeatherSource.means source.now) n unit_flows.old reach_flows.old unit_flows.new reach_flows.new result) (view self.new) }
         ensures balance { (a : View S) (cs : List Call) → History S.Store.water S.Store.turns a cs (view self.old) → Balanced S.Store.water a (run (W.WeatherSource.means source.now) n unit_flows.old reach_flows.old unit_flows.new reach_flows.new result ∷ cs) (view self.new) }
     {
-        match self.check_run(unit_flows.len(), reach_flows.len(), n) {
-            Ok(()) => {
-                clear_units(unit_flows);
-                clear_reaches(reach_flows);
-                self.advance(source, n, unit_flows, reach_flows)
-            }
-            Err(fault) => only_stop(fault),
+        if let Err(fault) = self.check_run(unit_flows.len(), reach_flows.len(), n) {
+            return only_stop(fault);
         }
+        unit_flows.fill(NO_UNIT_FLOW);
+        reach_flows.fill(NO_REACH_FLOW);
+        self.advance(source, n, unit_flows, reach_flows)
     }
 
     // The tests that a pour and a draw share: the tables, the reach that is named, and the amount.
     fn check_amount(&self, reach: u64, amount: u64) -> Result<(), BasinFault>
         ensures { refused_by result ≡ amount_fault (view self.now) reach amount }
     {
-        let fit = lengths_fit(self.sites.len(), self.units.len(), self.reaches.len());
-        check_tables(fit, self.sites.as_slice(), self.reaches.as_slice())?;
-        if reach >= self.reaches.len() as u64 {
+        let tables = &self.tables;
+        check_tables(tables.lengths_fit(), &tables.sites, &tables.reaches)?;
+        if reach >= tables.reaches.len() as u64 {
             return Err(BasinFault::NoReach(reach));
         }
         if amount > AMOUNT {
@@ -146,16 +135,8 @@ impl<S: Store + Copy> Basin<S> {
         ensures value { Holding (view self.now) reach (stored_in (view self.now) reach + amount) result }
     {
         self.check_amount(reach, amount)?;
-        match check_limits(
-            self.sites.as_slice(),
-            self.units.as_slice(),
-            self.reaches.as_slice(),
-            &[],
-            amount as u128,
-        ) {
-            Ok(_) => Ok(self.reaches[reach as usize].stored + amount),
-            Err(fault) => Err(fault),
-        }
+        self.tables.check_limits(&[], amount as u128)?;
+        Ok(self.tables.reaches[reach as usize].stored + amount)
     }
 
     // The water that a reach holds after a draw, or the first refusal.
@@ -164,7 +145,7 @@ impl<S: Store + Copy> Basin<S> {
         ensures value { Holding (view self.now) reach (stored_in (view self.now) reach - amount) result }
     {
         self.check_amount(reach, amount)?;
-        let stored = self.reaches[reach as usize].stored;
+        let stored = self.tables.reaches[reach as usize].stored;
         if amount > stored {
             return Err(BasinFault::Short(reach));
         }
@@ -176,7 +157,7 @@ impl<S: Store + Copy> Basin<S> {
         requires { reach < length (view self.old).state.reaches }
         ensures { view self.new ≡ filled reach stored (view self.old) }
     {
-        self.reaches[reach as usize].stored = stored;
+        self.tables.reaches[reach as usize].stored = stored;
     }
 
     // Adds water to a reach.
@@ -184,13 +165,9 @@ impl<S: Store + Copy> Basin<S> {
         ensures step { Step S.Store.water S.Store.turns (view self.old) (pour reach amount result) (view self.new) }
         ensures balance { (a : View S) (cs : List Call) → History S.Store.water S.Store.turns a cs (view self.old) → Balanced S.Store.water a (pour reach amount result ∷ cs) (view self.new) }
     {
-        match self.poured(reach, amount) {
-            Ok(stored) => {
-                self.fill(reach, stored);
-                Ok(())
-            }
-            Err(fault) => Err(fault),
-        }
+        let stored = self.poured(reach, amount)?;
+        self.fill(reach, stored);
+        Ok(())
     }
 
     // Takes water from a reach.
@@ -198,12 +175,8 @@ impl<S: Store + Copy> Basin<S> {
         ensures step { Step S.Store.water S.Store.turns (view self.old) (draw reach amount result) (view self.new) }
         ensures balance { (a : View S) (cs : List Call) → History S.Store.water S.Store.turns a cs (view self.old) → Balanced S.Store.water a (draw reach amount result ∷ cs) (view self.new) }
     {
-        match self.drawn(reach, amount) {
-            Ok(stored) => {
-                self.fill(reach, stored);
-                Ok(())
-            }
-            Err(fault) => Err(fault),
-        }
+        let stored = self.drawn(reach, amount)?;
+        self.fill(reach, stored);
+        Ok(())
     }
 }

@@ -1,6 +1,7 @@
 // The questions of a day: the sites in order, then the reaches.
-ghost use Rattle.std.specs.Prelude.{◌≡◌, ◌≤◌, length};
-ghost use Rattle.basin.specs.Loops.{Counted, ReachesAnswered, SitesAnswered, readings_most};
+ghost use Rattle.std.specs.Prelude.{◌≡◌, ℕ, ◌≤◌, length};
+ghost use Rattle.weather.specs.declared.day.Day.{Day};
+ghost use Rattle.basin.specs.Loops.{Counted, PlacesAnswered, readings_most};
 
 use network::reach::Reach;
 use network::site::Site;
@@ -8,46 +9,90 @@ use refusals::basin::BasinFault;
 use weather::day::Day;
 use weather::source::WeatherSource;
 
-// The weather of each site.
-pub fn ask_sites<W: WeatherSource>(
-    source: &W,
-    index: u64,
-    sites: &[Site],
-    weather: &mut [Day],
-    readings: &mut u64,
-) -> Result<(), BasinFault>
-    requires { (length weather.old ≡ length sites.now) × ((length sites.now ≤ 1024) × (readings.old ≤ readings_most)) }
-    ensures asked { SitesAnswered (W.WeatherSource.means source.now) index sites.now weather.new result }
-    ensures counted { Counted (length sites.now) readings.old readings.new result }
-{
-    for (i, site) in sites.iter().enumerate() {
-        *readings += 1;
-        match source.day(site.station as u64, index) {
-            Ok(day) => weather[i] = day,
-            Err(fault) => return Err(BasinFault::Weather(i as u64, fault)),
-        }
-    }
-    Ok(())
+// A place with a station, of whose weather something is kept.
+pub trait Gauged {
+    type Kept: Copy;
+
+    // The number of the first place.
+    ghost FIRST: { ℕ };
+
+    const FIRST: u64;
+
+    ghost gauge: { Self → ℕ };
+
+    ghost kept: { Day → Self.Kept };
+
+    fn station(&self) -> u8
+        ensures { result ≡ gauge self.now };
+
+    fn keep(day: Day) -> Self::Kept
+        ensures { result ≡ kept day };
 }
 
-// The evaporative demand at each reach.
-pub fn ask_reaches<W: WeatherSource>(
+// All of it at a site.
+impl Gauged for Site {
+    type Kept = Day;
+
+    ghost FIRST = { 0 };
+
+    const FIRST: u64 = 0;
+
+    ghost gauge = { λ s. s.station };
+
+    ghost kept = { λ w. w };
+
+    fn station(&self) -> u8 {
+        self.station
+    }
+
+    fn keep(day: Day) -> Day {
+        day
+    }
+}
+
+// The evaporative demand at a reach.
+impl Gauged for Reach {
+    type Kept = u32;
+
+    ghost FIRST = { 1024 };
+
+    const FIRST: u64 = 1024;
+
+    ghost gauge = { λ r. r.channel.station };
+
+    ghost kept = { λ w. w.demand };
+
+    fn station(&self) -> u8 {
+        self.channel.station
+    }
+
+    fn keep(day: Day) -> u32 {
+        day.demand
+    }
+}
+
+// Asks for the weather of each place, and keeps what is kept of it.
+pub fn ask<W: WeatherSource, P: Gauged>(
     source: &W,
     index: u64,
-    reaches: &[Reach],
-    demands: &mut [u32],
+    places: &[P],
+    list: &mut [P::Kept],
     readings: &mut u64,
 ) -> Result<(), BasinFault>
-    requires { (length demands.old ≡ length reaches.now) × ((length reaches.now ≤ 256) × (readings.old ≤ readings_most)) }
-    ensures asked { ReachesAnswered (W.WeatherSource.means source.now) index reaches.now demands.new result }
-    ensures counted { Counted (length reaches.now) readings.old readings.new result }
+    requires numbered { P.FIRST ≤ 1024 }
+    requires few { length places.now ≤ 1024 }
+    requires long { length list.old ≡ length places.now }
+    requires read { readings.old ≤ readings_most }
+    ensures asked { PlacesAnswered P.gauge P.kept P.FIRST (W.WeatherSource.means source.now) index places.now list.new result }
+    ensures counted { Counted (length places.now) readings.old readings.new result }
 {
-    for (j, reach) in reaches.iter().enumerate() {
+    for (i, place) in places.iter().enumerate() {
         *readings += 1;
-        match source.day(reach.channel.station as u64, index) {
-            Ok(day) => demands[j] = day.demand,
-            Err(fault) => return Err(BasinFault::Weather(1024 + j as u64, fault)),
-        }
+        let number = P::FIRST + i as u64;
+        let day = source
+            .day(place.station() as u64, index)
+            .map_err(|fault| BasinFault::Weather(number, fault))?;
+        list[i] = P::keep(day);
     }
     Ok(())
 }

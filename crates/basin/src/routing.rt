@@ -5,8 +5,7 @@ ghost use Rattle.network.specs.Routing.{ReachDay, arriving, sides};
 ghost use Rattle.basin.specs.Limits.{most, reach_water};
 ghost use Rattle.basin.specs.Loops.{Ahead, due, passed};
 
-use crate::sums::clear_reaches;
-use network::flows::{ReachFlow, UnitFlow};
+use network::flows::{NO_REACH_FLOW, ReachFlow, UnitFlow};
 use network::reach::Reach;
 use network::site::Site;
 
@@ -17,10 +16,9 @@ pub fn gather(sites: &[Site], flows: &[UnitFlow], list: &mut [ReachFlow])
     requires small { (j : ℕ) → sides j sites.now flows.now ≤ most }
     ensures { (j : ℕ) → j < length list.new → (get_or list.new j flow0).inflow ≡ sides j sites.now flows.now }
 {
-    clear_reaches(list);
-    for i in 0..sites.len() {
-        let site = sites[i];
-        list[site.reach as usize].inflow += site.area as u128 * flows[i].side as u128;
+    list.fill(NO_REACH_FLOW);
+    for (site, flow) in sites.iter().zip(flows) {
+        list[site.reach as usize].inflow += site.area as u128 * flow.side as u128;
     }
 }
 
@@ -60,15 +58,16 @@ fn pass(list: &mut [ReachFlow], next: Option<u8>, from: usize, outflow: u128)
 
 // The reaches in order, each with what its sites and the reaches above it gave.
 pub fn route(reaches: &mut [Reach], demands: &[u32], list: &mut [ReachFlow])
-    requires long { (length list.old ≡ length reaches.old) × (length demands.now ≡ length reaches.old) }
+    requires long { length list.old ≡ length reaches.old }
+    requires asked { length demands.now ≡ length reaches.old }
     requires ahead { (j : ℕ) → j < length reaches.old → Ahead (get_or reaches.old j reach0).channel.next j (length reaches.old) }
     requires small { reach_water reaches.old + due list.old ≤ most }
     ensures fits { (j : ℕ) → j < length reaches.old → (get_or reaches.old j reach0).stored + (get_or list.new j flow0).inflow ≤ most }
     ensures routed { (j : ℕ) → j < length reaches.old → ReachDay ((get_or list.old j flow0).inflow + arriving j reaches.old list.new) (slice_index demands.now j) (slice_index_or reaches.old j reach0) (slice_index_or reaches.new j reach0) (slice_index_or list.new j flow0) }
 {
-    for j in 0..reaches.len() {
+    for (j, demand) in demands.iter().enumerate() {
         let next = reaches[j].channel.next;
-        let flow = route_one(&mut reaches[j], list[j].inflow, demands[j]);
+        let flow = route_one(&mut reaches[j], list[j].inflow, *demand);
         list[j] = flow;
         pass(list, next, j, flow.outflow);
     }

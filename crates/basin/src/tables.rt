@@ -1,53 +1,59 @@
 // Whether the tables of a basin fit together.
-ghost use Rattle.std.specs.Prelude.{◌≡◌, ◌≤◌, true, length};
-ghost use Rattle.basin.specs.Tables.{areas, lengths_fit, lies_ahead, next_fault, refused_by, stray_fault, tables_fault};
+ghost use Rattle.std.specs.Prelude.{◌≡◌, ◌≤◌, true, not, length, nat_le};
+ghost use Rattle.std.specs.List.{enumerate_from, position};
+ghost use Rattle.basin.specs.Tables.{areas, lengths_fit, lies_ahead, refused_by, tables_fault};
 
 use network::reach::Reach;
 use network::site::Site;
 use refusals::basin::BasinFault;
 
+// The tables of a basin. Sites and units are two lists, as they are handed over: a basin may be filled with lists of
+// any lengths, which its calls refuse. So what makes tables sound is asked by methods, and is no invariant.
+#[derive(Drop)]
+pub struct Tables<S> {
+    pub sites: Vec<Site>,
+    pub units: Vec<S>,
+    pub reaches: Vec<Reach>,
+}
+
+impl<S> Tables<S> {
+    // Whether so many sites, units and reaches go together.
+    pub fn lengths_fit(&self) -> bool
+        ensures { result ≡ lengths_fit (length self.now.sites.items) (length self.now.units.items) (length self.now.reaches.items) }
+    {
+        let sites = self.sites.len();
+        (1..=1024).contains(&sites)
+            && self.units.len() == sites
+            && (1..=256).contains(&self.reaches.len())
+    }
+}
+
 // The greatest sum of the areas, in square metres.
 const AREA: u64 = 1_000_000_000;
 
-// Whether so many sites, units and reaches go together.
-pub fn lengths_fit(sites: usize, units: usize, reaches: usize) -> bool
-    ensures { result ≡ lengths_fit sites units reaches }
+// The first site whose reach does not exist.
+fn stray_site(sites: &[Site], reaches: usize) -> Option<usize>
+    ensures { result ≡ position (λ s. nat_le reaches s.reach) sites.now }
 {
-    sites >= 1 && sites <= 1024 && units == sites && reaches >= 1 && reaches <= 256
-}
-
-// Every site's reach exists.
-fn check_sites(sites: &[Site], reaches: usize) -> Result<(), BasinFault>
-    ensures { refused_by result ≡ stray_fault reaches 0 sites.now }
-{
-    for i in 0..sites.len() {
-        if sites[i].reach as usize >= reaches {
-            return Err(BasinFault::SiteReach(i as u64));
-        }
-    }
-    Ok(())
+    sites.iter().position(|site| site.reach as usize >= reaches)
 }
 
 // Whether the next reach, if there is one, lies further on.
 fn lies_ahead(next: Option<u8>, from: usize, to: usize) -> bool
     ensures { result ≡ lies_ahead next from to }
 {
-    match next {
-        None => true,
-        Some(reach) => from < reach as usize && (reach as usize) < to,
-    }
+    next.is_none_or(|reach| from < reach as usize && (reach as usize) < to)
 }
 
-// Every next reach lies further on.
-fn check_reaches(reaches: &[Reach]) -> Result<(), BasinFault>
-    ensures { refused_by result ≡ next_fault (length reaches.now) 0 reaches.now }
+// The first reach whose next does not lie further on.
+fn stray_next(reaches: &[Reach]) -> Option<usize>
+    ensures { result ≡ position (λ q. not (lies_ahead q.1.channel.next q.0 (length reaches.now))) (enumerate_from 0 reaches.now) }
 {
-    for j in 0..reaches.len() {
-        if !lies_ahead(reaches[j].channel.next, j, reaches.len()) {
-            return Err(BasinFault::NextReach(j as u64));
-        }
-    }
-    Ok(())
+    reaches.iter().enumerate().position(|(j, reach)| !lies_ahead(
+        reach.channel.next,
+        j,
+        reaches.len(),
+    ))
 }
 
 // The area of all sites.
@@ -55,14 +61,11 @@ fn total_area(sites: &[Site]) -> u64
     requires { length sites.now ≤ 1024 }
     ensures { result ≡ areas sites.now }
 {
-    let mut sum: u64 = 0;
-    for site in sites {
-        sum += site.area as u64;
-    }
-    sum
+    sites.iter().map(|site| u64::from(site.area)).sum()
 }
 
 // The first fault of the tables; `fit` says whether their lengths go together.
+#[tactic(auto, using(crate::proofs::Straying::stray_first, crate::proofs::Straying::next_first))]
 pub fn check_tables(fit: bool, sites: &[Site], reaches: &[Reach]) -> Result<(), BasinFault>
     requires { fit ≡ true → length sites.now ≤ 1024 }
     ensures { refused_by result ≡ tables_fault fit sites.now reaches.now }
@@ -70,8 +73,12 @@ pub fn check_tables(fit: bool, sites: &[Site], reaches: &[Reach]) -> Result<(), 
     if !fit {
         return Err(BasinFault::Lengths);
     }
-    check_sites(sites, reaches.len())?;
-    check_reaches(reaches)?;
+    if let Some(site) = stray_site(sites, reaches.len()) {
+        return Err(BasinFault::SiteReach(site as u64));
+    }
+    if let Some(reach) = stray_next(reaches) {
+        return Err(BasinFault::NextReach(reach as u64));
+    }
     if total_area(sites) > AREA {
         return Err(BasinFault::Areas);
     }

@@ -9,26 +9,20 @@ pub mod tests {
     use stores::store::Store;
     use weather::source::WeatherSource;
 
-    // The number and the values of a refusal, filled up with zeros; all zeros for none.
-    pub fn shown(fault: Option<BasinFault>) -> [u64; 5] {
-        let Some(fault) = fault else {
-            return [0; 5];
-        };
-        let number = fault.number() as u64;
-        match fault.values() {
-            Values::One(v) => [number, v, 0, 0, 0],
-            Values::Two(v, w) => [number, v, w, 0, 0],
-            Values::Four(v, w, x, y) => [number, v, w, x, y],
-        }
+    // The number and the values of a refusal, if there is one.
+    pub type Refusal = Option<(u32, Values)>;
+
+    pub fn refusal(fault: Option<BasinFault>) -> Refusal {
+        fault.map(|fault| (fault.number(), fault.values()))
     }
 
-    #[derive(Clone, Copy)]
+    #[derive(Clone, Copy, PartialEq)]
     pub struct Told {
         // Days, readings, start and end.
         pub figures: [u128; 4],
         // The sums, and then the records of both units and of both reaches.
         pub moved: [[u128; 4]; 5],
-        pub stop: [u64; 5],
+        pub stop: Refusal,
     }
 
     // What stays and what left is what was there and what came.
@@ -60,7 +54,7 @@ pub mod tests {
     // What a run leaves that moves nothing.
     pub const ZEROS: [[u128; 4]; 5] = [[0; 4]; 5];
 
-    pub fn unit(f: UnitFlow) -> [u128; 4] {
+    fn unit(f: UnitFlow) -> [u128; 4] {
         [
             f.rain as u128,
             f.side as u128,
@@ -69,7 +63,7 @@ pub mod tests {
         ]
     }
 
-    pub fn reach(f: ReachFlow) -> [u128; 4] {
+    fn reach(f: ReachFlow) -> [u128; 4] {
         [f.inflow, f.outflow, f.vapour, f.deep]
     }
 
@@ -97,7 +91,7 @@ pub mod tests {
                 reach(reaches[0]),
                 reach(reaches[1]),
             ],
-            stop: shown(answer.stop),
+            stop: refusal(answer.stop),
         }
     }
 }

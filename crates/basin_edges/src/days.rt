@@ -1,7 +1,7 @@
 // Days worked by hand, and runs one after another.
 #[cfg(test)]
 mod tests {
-    use crate::answers::tests::{REACH, Told, UNIT, balances, reach as reach_numbers, run};
+    use crate::answers::tests::{REACH, Told, UNIT, balances, run};
     use crate::valleys::tests::{held, rock, valley};
     use basin::basin::Basin;
     use columns::SoilColumn;
@@ -49,19 +49,18 @@ mod tests {
     fn two_days(heap: Global) -> Result<bool, AllocError> {
         let mut basin = valley(heap, [0; 4], [rock(1_000), rock(0)], [1_000, 0])?;
         let told = run(&mut basin, &years(), 2);
-        let moved = [
-            [20_000, 2_531, 6_600, 200],
-            [4_000, 4_000, 600, 0],
-            [4_000, 4_000, 0, 0],
-            [8_000, 2_550, 3_000, 200],
-            [14_550, 2_531, 2_400, 0],
-        ];
-        Ok(
-            told.figures == [2, 8, 3_000, 13_669]
-                && told.moved == moved
-                && told.stop == [0; 5]
-                && held(&basin) == [400, 0, 3_250, 9_619, 2],
-        )
+        let wanted = Told {
+            figures: [2, 8, 3_000, 13_669],
+            moved: [
+                [20_000, 2_531, 6_600, 200],
+                [4_000, 4_000, 600, 0],
+                [4_000, 4_000, 0, 0],
+                [8_000, 2_550, 3_000, 200],
+                [14_550, 2_531, 2_400, 0],
+            ],
+            stop: None,
+        };
+        Ok(told == wanted && held(&basin) == [400, 0, 3_250, 9_619, 2])
     }
 
     #[test]
@@ -82,11 +81,11 @@ mod tests {
         ([1_000_000, 1, 1, 3_334], [4_998, 1, 1, 0]),
     ];
 
-    fn routes(heap: Global, settings: [i64; 4], wanted: [u128; 4]) -> Result<bool, AllocError> {
+    fn routed(heap: Global, settings: [i64; 4]) -> Result<[u128; 4], Fail> {
         let [outflow, loss, surface, evaporation] = settings;
-        let Ok(reach) = Reach::new(None, 0, 1_000, outflow, loss, surface, evaporation) else {
-            return Ok(false);
-        };
+        let reach = Reach::new(None, 0, 1_000, outflow, loss, surface, evaporation).map_err(
+            |_| Fail::new("no reach"),
+        )?;
         let site = Site {
             area: 2,
             reach: 0,
@@ -95,16 +94,16 @@ mod tests {
         let sites = vec![in heap; site]?;
         let units = vec![in heap; rock(0)]?;
         let mut basin = Basin::new(sites, units, vec![in heap; reach]?);
-        let mut reach_list = [REACH; 1];
-        let answer = basin.run(&years(), 1, &mut [UNIT; 1], &mut reach_list);
-        let [_, out, vapour, deep] = reach_numbers(reach_list[0]);
-        Ok([out, vapour, deep, answer.end] == wanted)
+        let mut flows = [REACH; 1];
+        let answer = basin.run(&years(), 1, &mut [UNIT; 1], &mut flows);
+        let [flow] = flows;
+        Ok([flow.outflow, flow.vapour, flow.deep, answer.end])
     }
 
     #[test]
     fn one_reach(rt: HostRuntime) -> Result<(), Fail> {
-        for (settings, wanted) in ROUTES.iter() {
-            assert!(rt; routes(rt.alloc(), *settings, *wanted)?, "{}", wanted[3]);
+        for (settings, wanted) in ROUTES {
+            assert_eq!(rt; routed(rt.alloc(), settings)?, wanted);
         }
         Ok(())
     }
@@ -151,14 +150,14 @@ mod tests {
 
     // What two runs moved together is what one moved.
     fn add_up(first: &Told, second: &Told, whole: &Told) -> bool {
-        for i in 0..5 {
-            for k in 0..4 {
-                if first.moved[i][k].wrapping_add(second.moved[i][k]) != whole.moved[i][k] {
-                    return false;
-                }
-            }
-        }
-        true
+        let parts = first
+            .moved
+            .iter()
+            .flatten()
+            .zip(second.moved.iter().flatten());
+        parts
+            .zip(whole.moved.iter().flatten())
+            .all(|((one, other), both)| one.wrapping_add(*other) == *both)
     }
 
     // 400 days of soil columns at once, and as 150 days and then 250.

@@ -1,7 +1,7 @@
 // Tables and lists that fit together, and those that do not: 51 to 54.
 #[cfg(test)]
 mod tests {
-    use crate::answers::tests::{REACH, UNIT, reach, shown, unit};
+    use crate::answers::tests::{REACH, Refusal, UNIT, refusal};
     use crate::valleys::tests::{held, rock, share, valley};
     use basin::basin::Basin;
     use columns::RockColumn;
@@ -9,14 +9,16 @@ mod tests {
     use network::flows::{ReachFlow, UnitFlow};
     use network::reach::Reach;
     use network::site::Site;
+    use refusals::values::Values::One;
     use std::alloc::{AllocError, Global};
     use std::test::Fail;
     use stores::store::Store;
     use strangers::steady::Steady;
 
-    // Area and reach of two sites, how many units, how many reaches, and the next of three; the refusal, or zeros.
+    // Area and reach of two sites, how many units, how many reaches, and the next of three; the refusal.
+    // A row is taken apart, not compared.
     #[derive(Clone, Copy)]
-    struct Tables([[u32; 2]; 2], usize, usize, [u8; 3], [u64; 2]);
+    struct Tables([[u32; 2]; 2], usize, usize, [u8; 3], Refusal);
 
     // No site, and no next reach: the first is none.
     const NO: [u32; 2] = [0, 0];
@@ -27,37 +29,42 @@ mod tests {
 
     const HALF: u32 = 500_000_000;
 
+    // The tables' lengths disagree or are outside; the areas sum to too much.
+    const LENGTHS: Refusal = Some((51, One(0)));
+
+    const AREAS: Refusal = Some((54, One(0)));
+
     const ROWS: [Tables; 24] = [
-        Tables([[1, 0], NO], 1, 1, [END; 3], [0, 0]),
-        Tables([NO, NO], 0, 1, [END; 3], [51, 0]),
-        Tables([NO, NO], 1, 1, [END; 3], [51, 0]),
-        Tables([[1, 0], NO], 1, 0, [END; 3], [51, 0]),
-        Tables([[1, 0], [1, 0]], 1, 1, [END; 3], [51, 0]),
-        Tables([[1, 0], NO], 2, 1, [END; 3], [51, 0]),
-        Tables([[1, 0], NO], 0, 1, [END; 3], [51, 0]),
-        Tables([[1, 0], [1, 1]], 2, 2, [1, END, END], [0, 0]),
-        Tables([[1, 0], [1, 2]], 2, 2, [1, END, END], [52, 1]),
-        Tables([[1, 255], [1, 2]], 2, 2, [END; 3], [52, 0]),
-        Tables([[1, 0], NO], 1, 1, [1, END, END], [53, 0]),
-        Tables([[1, 0], NO], 1, 2, [END, 1, END], [53, 1]),
-        Tables([[1, 0], NO], 1, 3, [END, END, 1], [53, 2]),
-        Tables([[1, 0], NO], 1, 2, [2, END, END], [53, 0]),
-        Tables([[1, 2], NO], 1, 3, [2, 2, END], [0, 0]),
-        Tables([[1, 0], NO], 1, 3, [1, 254, 1], [53, 1]),
-        Tables([[HALF, 0], [HALF, 0]], 2, 1, [END; 3], [0, 0]),
-        Tables([[HALF, 0], [HALF + 1, 0]], 2, 1, [END; 3], [54, 0]),
-        Tables([[WHOLE, 0], NO], 1, 1, [END; 3], [0, 0]),
-        Tables([[WHOLE, 0], [1, 0]], 2, 1, [END; 3], [54, 0]),
+        Tables([[1, 0], NO], 1, 1, [END; 3], None),
+        Tables([NO, NO], 0, 1, [END; 3], LENGTHS),
+        Tables([NO, NO], 1, 1, [END; 3], LENGTHS),
+        Tables([[1, 0], NO], 1, 0, [END; 3], LENGTHS),
+        Tables([[1, 0], [1, 0]], 1, 1, [END; 3], LENGTHS),
+        Tables([[1, 0], NO], 2, 1, [END; 3], LENGTHS),
+        Tables([[1, 0], NO], 0, 1, [END; 3], LENGTHS),
+        Tables([[1, 0], [1, 1]], 2, 2, [1, END, END], None),
+        Tables([[1, 0], [1, 2]], 2, 2, [1, END, END], Some((52, One(1)))),
+        Tables([[1, 255], [1, 2]], 2, 2, [END; 3], Some((52, One(0)))),
+        Tables([[1, 0], NO], 1, 1, [1, END, END], Some((53, One(0)))),
+        Tables([[1, 0], NO], 1, 2, [END, 1, END], Some((53, One(1)))),
+        Tables([[1, 0], NO], 1, 3, [END, END, 1], Some((53, One(2)))),
+        Tables([[1, 0], NO], 1, 2, [2, END, END], Some((53, One(0)))),
+        Tables([[1, 2], NO], 1, 3, [2, 2, END], None),
+        Tables([[1, 0], NO], 1, 3, [1, 254, 1], Some((53, One(1)))),
+        Tables([[HALF, 0], [HALF, 0]], 2, 1, [END; 3], None),
+        Tables([[HALF, 0], [HALF + 1, 0]], 2, 1, [END; 3], AREAS),
+        Tables([[WHOLE, 0], NO], 1, 1, [END; 3], None),
+        Tables([[WHOLE, 0], [1, 0]], 2, 1, [END; 3], AREAS),
         // Two at once: 51 and 52, 52 and 53, 52 and 54, 53 and 54.
-        Tables([[1, 1], NO], 2, 1, [END; 3], [51, 0]),
-        Tables([[1, 1], NO], 1, 1, [1; 3], [52, 0]),
-        Tables([[WHOLE, 0], [1, 3]], 2, 1, [END; 3], [52, 1]),
-        Tables([[WHOLE, 0], [1, 0]], 2, 1, [1; 3], [53, 0]),
+        Tables([[1, 1], NO], 2, 1, [END; 3], LENGTHS),
+        Tables([[1, 1], NO], 1, 1, [1; 3], Some((52, One(0)))),
+        Tables([[WHOLE, 0], [1, 3]], 2, 1, [END; 3], Some((52, One(1)))),
+        Tables([[WHOLE, 0], [1, 0]], 2, 1, [1; 3], Some((53, One(0)))),
     ];
 
     fn channel(next: u8) -> Reach {
         let channel = Channel {
-            next: if next == END { None } else { Some(next) },
+            next: (next != END).then_some(next),
             station: 0,
             outflow: share(250_000),
             loss: 0,
@@ -67,35 +74,20 @@ mod tests {
         Reach { channel, stored: 9 }
     }
 
-    // All records of both lists are this number.
-    fn filled(units: &[UnitFlow], reaches: &[ReachFlow], number: u128) -> bool {
-        for i in 0..units.len() {
-            if unit(units[i]) != [number; 4] {
-                return false;
-            }
-        }
-        for j in 0..reaches.len() {
-            if reach(reaches[j]) != [number; 4] {
-                return false;
-            }
-        }
-        true
+    // The flow lists are cleared where the run is accepted, and else as before.
+    fn left(accepted: bool, units: &[UnitFlow], reaches: &[ReachFlow]) -> bool {
+        let (unit, reach) = if accepted {
+            (UnitFlow::default(), ReachFlow::default())
+        } else {
+            (UNIT, REACH)
+        };
+        units.iter().all(|flow| *flow == unit) && reaches.iter().all(|flow| *flow == reach)
     }
 
     // Each unit has 3, and each reach 9.
     fn level<S: Store>(units: &[S], reaches: &[Reach]) -> bool {
-        for i in 0..units.len() {
-            if !matches!(units[i].water(), Ok(3)) {
-                return false;
-            }
-        }
-        for j in 0..reaches.len() {
-            let Reach { channel: _, stored } = reaches[j];
-            if stored != 9 {
-                return false;
-            }
-        }
-        true
+        units.iter().all(|unit| unit.water() == Ok(3))
+            && reaches.iter().all(|reach| reach.stored == 9)
     }
 
     // How many units and reaches there are, and the day count.
@@ -114,14 +106,14 @@ mod tests {
         sites: Vec<Site>,
         units: usize,
         reaches: Vec<Reach>,
-        refused: [u64; 2],
+        refused: Refusal,
     ) -> Result<bool, AllocError> {
         let (site_count, reach_count) = (sites.len(), reaches.len());
         let columns = vec![in heap; rock(3); units]?;
         let mut unit_list = vec![in heap; UNIT; site_count]?;
         let mut reach_list = vec![in heap; REACH; reach_count]?;
         let mut basin = Basin::new(sites, columns, reaches);
-        let accepted = refused[0] == 0;
+        let accepted = refused.is_none();
         let (n, at, amount) = if accepted {
             (0, 0, 1)
         } else {
@@ -134,13 +126,13 @@ mod tests {
             reach_list.as_mut_slice(),
         );
         let stops = [
-            shown(answer.stop),
-            shown(basin.pour(at, amount).err()),
-            shown(basin.draw(at, amount).err()),
+            refusal(answer.stop),
+            refusal(basin.pour(at, amount).err()),
+            refusal(basin.draw(at, amount).err()),
         ];
         Ok(
-            stops == [[refused[0], refused[1], 0, 0, 0]; 3]
-                && filled(&unit_list, &reach_list, if accepted { 0 } else { 7 })
+            stops == [refused; 3]
+                && left(accepted, &unit_list, &reach_list)
                 && level(basin.units(), basin.reaches())
                 && counts(&basin) == [units, reach_count, 0],
         )
@@ -149,14 +141,14 @@ mod tests {
     fn row_fits(heap: Global, row: Tables) -> Result<bool, AllocError> {
         let Tables(pairs, units, count, nexts, refused) = row;
         let mut sites = Vec::new(heap);
-        for i in 0..2 {
-            if let Ok(site) = Site::new(pairs[i][0] as i64, pairs[i][1] as i64, 0) {
+        for [area, reach] in pairs {
+            if let Ok(site) = Site::new(area as i64, reach as i64, 0) {
                 sites.push(site)?;
             }
         }
         let mut reaches = Vec::new(heap);
-        for j in 0..count.min(3) {
-            reaches.push(channel(nexts[j]))?;
+        for next in nexts.iter().take(count) {
+            reaches.push(channel(*next))?;
         }
         fits(heap, sites, units, reaches, refused)
     }
@@ -173,7 +165,7 @@ mod tests {
         heap: Global,
         sites: usize,
         reaches: usize,
-        refused: [u64; 2],
+        refused: Refusal,
     ) -> Result<bool, AllocError> {
         let site = Site {
             area: 976_562,
@@ -187,9 +179,9 @@ mod tests {
 
     #[test]
     fn widest(rt: HostRuntime) -> Result<(), Fail> {
-        assert!(rt; wide_fits(rt.alloc(), 1_024, 256, [0, 0])?);
-        assert!(rt; wide_fits(rt.alloc(), 1_025, 256, [51, 0])?);
-        assert!(rt; wide_fits(rt.alloc(), 1_024, 257, [51, 0])?);
+        assert!(rt; wide_fits(rt.alloc(), 1_024, 256, None)?);
+        assert!(rt; wide_fits(rt.alloc(), 1_025, 256, LENGTHS)?);
+        assert!(rt; wide_fits(rt.alloc(), 1_024, 257, LENGTHS)?);
         Ok(())
     }
 
@@ -198,7 +190,7 @@ mod tests {
         heap: Global,
         units: usize,
         reaches: usize,
-        refused: u64,
+        refused: Refusal,
     ) -> Result<bool, AllocError> {
         let mut basin = valley(heap, [0; 4], [rock(3), rock(3)], [9, 9])?;
         let mut unit_list = vec![in heap; UNIT; units]?;
@@ -210,36 +202,31 @@ mod tests {
             reach_list.as_mut_slice(),
         );
         let stops = [
-            shown(answer.stop),
-            shown(basin.pour(0, 2).err()),
-            shown(basin.draw(0, 1).err()),
+            refusal(answer.stop),
+            refusal(basin.pour(0, 2).err()),
+            refusal(basin.draw(0, 1).err()),
         ];
-        let left = if refused == 0 { 0 } else { 7 };
         Ok(
-            stops == [[refused, 0, 0, 0, 0], [0; 5], [0; 5]]
-                && filled(&unit_list, &reach_list, left)
+            stops == [refused, None, None]
+                && left(refused.is_none(), &unit_list, &reach_list)
                 && held(&basin) == [3, 3, 10, 9, 0],
         )
     }
 
-    // Lengths of the flow lists, and the number of the refusal.
-    const LISTS: [(usize, usize, u64); 6] = [
-        (2, 2, 0),
-        (1, 2, 51),
-        (3, 2, 51),
-        (2, 1, 51),
-        (2, 3, 51),
-        (0, 0, 51),
+    // Lengths of the flow lists, and the refusal.
+    const LISTS: [(usize, usize, Refusal); 6] = [
+        (2, 2, None),
+        (1, 2, LENGTHS),
+        (3, 2, LENGTHS),
+        (2, 1, LENGTHS),
+        (2, 3, LENGTHS),
+        (0, 0, LENGTHS),
     ];
 
     #[test]
     fn flow_lists(rt: HostRuntime) -> Result<(), Fail> {
-        for (units, reaches, refused) in LISTS.iter() {
-            assert!(rt;
-                lists_fit(rt.alloc(), *units, *reaches, *refused)?,
-                "{}",
-                *units
-            );
+        for (units, reaches, refused) in LISTS {
+            assert!(rt; lists_fit(rt.alloc(), units, reaches, refused)?, "{units}");
         }
         Ok(())
     }

@@ -84,26 +84,27 @@ pub mod tests {
         Ok(Basin::new(sites, units, reaches))
     }
 
-    // The water of both units, that of both reaches, and the day count.
-    pub fn held<S: Store + Copy>(basin: &Basin<S>) -> [u128; 5] {
-        let (units, reaches) = (basin.units(), basin.reaches());
-        if units.len() != 2 || reaches.len() != 2 {
+    // The water of both units as it is told, that of both reaches, and the day count.
+    pub fn tally<S: Store + Copy, F: Fn(&S) -> u128>(basin: &Basin<S>, water: F) -> [u128; 5]
+        requires { F.IsAlwaysCallable water }
+    {
+        let ([near, far], [upper, lower]) = (basin.units(), basin.reaches()) else {
             return [0; 5];
-        }
+        };
         [
-            water(&units[0]),
-            water(&units[1]),
-            reaches[0].stored as u128,
-            reaches[1].stored as u128,
+            water(near),
+            water(far),
+            upper.stored as u128,
+            lower.stored as u128,
             basin.day_count() as u128,
         ]
     }
 
     // A unit that passes its limit tells nothing.
-    fn water<S: Store>(unit: &S) -> u128 {
-        match unit.water() {
-            Ok(water) => water as u128,
-            Err(_) => u128::MAX,
-        }
+    pub fn held<S: Store + Copy>(basin: &Basin<S>) -> [u128; 5] {
+        tally(
+            basin,
+            |unit| unit.water().map_or(u128::MAX, |water| water as u128),
+        )
     }
 }

@@ -1,5 +1,5 @@
 // A metre and a half of loam, wet in early spring, over a slow aquifer.
-ghost use Rattle.std.specs.Prelude.{◌≡◌};
+ghost use Rattle.std.specs.Prelude.{◌≡◌, ◌≤◌};
 ghost use Rattle.profile.specs.Soils.{layers_of};
 ghost use Rattle.column.specs.Loam.{column_settings, layer_settings, loam_layers, loam_settings};
 
@@ -15,6 +15,14 @@ use stores::aquifer::Aquifer;
 use surface::retention::Retention;
 use surface::surface::Surface;
 
+// So many millionths of a whole.
+fn share(millionths: u32) -> Share
+    requires { millionths ≤ 1000000 }
+    ensures { result.millionths ≡ millionths }
+{
+    Share { millionths }
+}
+
 // Its three layers.
 fn soil() -> Soil
     ensures { layer_settings (layers_of result) ≡ loam_layers }
@@ -23,45 +31,32 @@ fn soil() -> Soil
         wilting: 30_000,
         capacity: 90_000,
         water: 95_000,
-        percolation: Share {
-            millionths: 400_000,
-        },
-        lateral: Share { millionths: 50_000 },
-        demand: Share {
-            millionths: 600_000,
-        },
+        percolation: share(400_000),
+        lateral: share(50_000),
+        demand: share(600_000),
     };
     let middle = Layer {
         wilting: 60_000,
         capacity: 160_000,
         water: 165_000,
-        percolation: Share {
-            millionths: 300_000,
-        },
-        lateral: Share { millionths: 30_000 },
-        demand: Share {
-            millionths: 700_000,
-        },
+        percolation: share(300_000),
+        lateral: share(30_000),
+        demand: share(700_000),
     };
     let bottom = Layer {
         wilting: 80_000,
         capacity: 200_000,
         water: 204_000,
-        percolation: Share {
-            millionths: 200_000,
-        },
-        lateral: Share { millionths: 20_000 },
-        demand: Share {
-            millionths: 1_000_000,
-        },
+        percolation: share(200_000),
+        lateral: share(20_000),
+        demand: share(1_000_000),
     };
     // Rows past the third mean nothing.
+    let mut rows = [bottom; 10];
+    rows[0] = top;
+    rows[1] = middle;
     Soil {
-        layers: Layers {
-            rows: [
-                top, middle, bottom, bottom, bottom, bottom, bottom, bottom, bottom, bottom,
-            ],
-        },
+        layers: Layers { rows },
         count: 3,
     }
 }
@@ -72,9 +67,9 @@ pub fn loam() -> SoilColumn
 {
     let aquifer = Aquifer {
         water: 50_000,
-        deep: Share { millionths: 50_000 },
+        deep: share(50_000),
         threshold: 40_000,
-        recession: Share { millionths: 20_000 },
+        recession: share(20_000),
     };
     let retention = Retention {
         greatest: 150_000,

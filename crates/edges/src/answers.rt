@@ -1,53 +1,30 @@
-// What a call answered, by the number and the values of a refusal.
+// What a call answers, by the number and the values of a refusal.
 #[cfg(test)]
 pub mod tests {
     use refusals::refused::Refused;
     use refusals::values::Values;
-    use weather::source::WeatherSource;
+    use weather::day::Day;
 
-    // The refusal has this number and this one value.
-    pub fn refuses<R: Refused>(fault: &R, number: u32, value: u64) -> bool {
-        match fault.values() {
-            Values::One(told) => fault.number() == number && told == value,
-            _ => false,
-        }
+    // The number and the values of a refusal, if there is one.
+    pub type Refusal = Option<(u32, Values)>;
+
+    pub fn refusal<T: Drop, R: Refused + Drop>(answer: Result<T, R>) -> Refusal {
+        answer.err().map(|fault| (fault.number(), fault.values()))
     }
 
-    // Something was made where no field is named; else that field was refused.
-    pub fn settles<T, R: Refused>(made: &Result<T, R>, number: u32, field: u64) -> bool {
-        match made {
-            Ok(_) => field == 0,
-            Err(fault) => refuses(fault, number, field),
-        }
+    // The refusal of a field with this number; no field is 0.
+    pub fn of_field(number: u32, field: u64) -> Refusal {
+        (field > 0).then_some((number, Values::One(field)))
     }
 
-    // The refusal has this number, and tells the station and the index that were asked.
-    pub fn refuses_at<R: Refused>(fault: &R, number: u32, station: u64, index: u64) -> bool {
-        match fault.values() {
-            Values::Two(s, i) => fault.number() == number && s == station && i == index,
-            _ => false,
-        }
-    }
-
-    // The answer is a day of this date and rain.
-    pub fn gives<S: WeatherSource>(
-        source: &S,
-        station: u64,
-        index: u64,
-        date: u16,
-        rain: u32,
-    ) -> bool {
-        match source.day(station, index) {
-            Ok(day) => day.date == date && day.rain == rain,
-            Err(_) => false,
-        }
-    }
-
-    // The answer is a refusal of this number.
-    pub fn denies<S: WeatherSource>(source: &S, station: u64, index: u64, number: u32) -> bool {
-        match source.day(station, index) {
-            Ok(_) => false,
-            Err(fault) => refuses_at(&fault, number, station, index),
-        }
+    // The figures of a day in field order.
+    pub fn figures(day: Day) -> [i64; 5] {
+        [
+            day.date as i64,
+            day.rain as i64,
+            day.highest as i64,
+            day.lowest as i64,
+            day.demand as i64,
+        ]
     }
 }

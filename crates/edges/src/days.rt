@@ -1,7 +1,7 @@
 // Days of weather at the limits of each figure.
 #[cfg(test)]
 mod tests {
-    use crate::answers::tests::refuses;
+    use crate::answers::tests::{figures, of_field, refusal};
     use weather::day::Day;
 
     // Figures in field order, and the field that is refused, or 0.
@@ -34,28 +34,18 @@ mod tests {
         ([364, 999_999, 5_999, 5_998, 49_999], 0),
     ];
 
-    fn holds(day: Day, figures: [i64; 5]) -> bool {
-        let [date, rain, highest, lowest, demand] = figures;
-        day.date as i64 == date
-            && day.rain as i64 == rain
-            && day.highest as i64 == highest
-            && day.lowest as i64 == lowest
-            && day.demand as i64 == demand
-    }
-
-    // The figures make their day, or this field is refused.
-    fn answers(figures: [i64; 5], refused: u64) -> bool {
-        let [date, rain, highest, lowest, demand] = figures;
-        match Day::new(date, rain, highest, lowest, demand) {
-            Ok(day) => refused == 0 && holds(day, figures),
-            Err(fault) => refuses(&fault, 11, refused),
-        }
-    }
-
+    // The figures make their day, or the field is refused.
     #[test]
     fn limits_of_a_day(rt: HostRuntime) {
-        for (figures, refused) in CASES {
-            assert!(rt; answers(figures, refused), "{}", refused);
+        for (wanted, refused) in CASES {
+            let [date, rain, highest, lowest, demand] = wanted;
+            let made = Day::new(date, rain, highest, lowest, demand);
+            assert_eq!(rt; refusal(made), of_field(11, refused), "{refused}");
+            assert_eq!(rt;
+                made.ok().map(figures),
+                (refused == 0).then_some(wanted),
+                "{refused}"
+            );
         }
     }
 }

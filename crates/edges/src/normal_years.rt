@@ -1,10 +1,13 @@
 // Normal years: their settings, and the months of their dates.
+ghost use Rattle.std.specs.Prelude.{◌<◌};
+
 #[cfg(test)]
 mod tests {
-    use crate::answers::tests::{denies, gives, settles};
-    use refusals::day::DayFault;
+    use crate::answers::tests::{of_field, refusal};
+    use refusals::values::Values;
     use refusals::weather::WeatherFault;
     use sources::normal_year::NormalYear;
+    use std::array;
     use std::test::Fail;
     use weather::day::Day;
     use weather::source::WeatherSource;
@@ -57,45 +60,46 @@ mod tests {
     ];
 
     // Each month's rain is its number, from 0.
-    fn months() -> Result<[Day; 12], DayFault> {
-        let mut months = [Day::new(100, 0, 0, 0, 0)?; 12];
-        for i in 0..12 {
-            months[i] = Day::new(100, i as i64, 0, 0, 0)?;
-        }
-        Ok(months)
+    fn months() -> [Day; 12] {
+        array::from_fn(
+            |month|
+                requires { month < 12 }
+            {
+                Day {
+                    date: 100,
+                    rain: month as u32,
+                    highest: 0,
+                    lowest: 0,
+                    demand: 0,
+                }
+            },
+        )
     }
 
     #[test]
-    fn settings(rt: HostRuntime) -> Result<(), Fail> {
-        let Ok(months) = months() else {
-            return Err(Fail::new("no months"));
-        };
+    fn settings(rt: HostRuntime) {
         for (stations, first, refused) in SETTINGS {
-            assert!(rt;
-                settles(&NormalYear::new(months, stations, first), 12, refused),
-                "{}",
-                refused
-            );
+            let made = NormalYear::new(months(), stations, first);
+            assert_eq!(rt; refusal(made), of_field(12, refused), "{refused}");
         }
-        Ok(())
     }
 
-    fn year(stations: i64, first: i64) -> Option<NormalYear> {
-        let Ok(months) = months() else {
-            return None;
-        };
-        NormalYear::new(months, stations, first).ok()
+    fn year(stations: i64, first: i64) -> Result<NormalYear, Fail> {
+        NormalYear::new(months(), stations, first).map_err(|_| Fail::new("no year"))
+    }
+
+    // The date and the rain of a station's day.
+    fn rain(year: &NormalYear, station: u64, index: u64) -> Result<(u16, u32), WeatherFault> {
+        year.day(station, index).map(|day| (day.date, day.rain))
     }
 
     #[test]
     fn dates(rt: HostRuntime) -> Result<(), Fail> {
-        let Some(year) = year(2, 1) else {
-            return Err(Fail::new("no year"));
-        };
-        assert!(rt; year.stations() == 2 && year.days() == 36_500);
-        for (index, date, rain) in DATES {
-            assert!(rt; matches!(year.date(index), Ok(d) if d == date), "{}", index);
-            assert!(rt; gives(&year, 1, index, date, rain), "{}", index);
+        let year = year(2, 1)?;
+        assert_eq!(rt; (year.stations(), year.days()), (2, 36_500));
+        for (index, date, depth) in DATES {
+            assert_eq!(rt; year.date(index), Ok(date), "{index}");
+            assert_eq!(rt; rain(&year, 1, index), Ok((date, depth)), "{index}");
         }
         Ok(())
     }
@@ -111,13 +115,13 @@ mod tests {
 
     #[test]
     fn beyond(rt: HostRuntime) -> Result<(), Fail> {
-        let Some(year) = year(64, 365) else {
-            return Err(Fail::new("no year"));
-        };
-        assert!(rt; gives(&year, 0, 1, 1, 0) && gives(&year, 63, 36_499, 364, 11));
-        assert!(rt; matches!(year.date(36_500), Err(WeatherFault::NoIndex(0, 36_500)),));
+        let year = year(64, 365)?;
+        assert_eq!(rt; rain(&year, 0, 1), Ok((1, 0)));
+        assert_eq!(rt; rain(&year, 63, 36_499), Ok((364, 11)));
+        assert_eq!(rt; year.date(36_500), Err(WeatherFault::NoIndex(0, 36_500)));
         for (station, index, number) in BEYOND {
-            assert!(rt; denies(&year, station, index, number), "{}", station);
+            let told = Some((number, Values::Two(station, index)));
+            assert_eq!(rt; refusal(year.day(station, index)), told, "{station}");
         }
         Ok(())
     }

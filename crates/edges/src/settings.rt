@@ -1,11 +1,23 @@
 // Every setting of every part at, one under and one over its limits.
 #[cfg(test)]
 mod tests {
-    use crate::answers::tests::settles;
+    use crate::answers::tests::{of_field, refusal};
     use profile::layer::Layer;
+    use refusals::refused::Refused;
     use snow::pack::Pack;
     use stores::aquifer::Aquifer;
     use surface::retention::Retention;
+
+    // The first row whose settings do not make the part where it names none, and else are not refused as it says.
+    fn astray<S: Copy, T: Drop, R: Refused + Drop, F: Fn(S) -> Result<T, R>>(
+        rows: &[(S, u64)],
+        make: F,
+    ) -> Option<usize>
+        requires { F.IsAlwaysCallable make }
+    {
+        rows.iter().position(|(settings, refused)| refusal(make(*settings))
+            != of_field(12, *refused))
+    }
 
     // Settings in number order, and the one that is refused, or 0.
     const AQUIFERS: [([i64; 4], u64); 16] = [
@@ -29,13 +41,13 @@ mod tests {
 
     #[test]
     fn aquifers(rt: HostRuntime) {
-        for ([water, deep, threshold, flow], refused) in AQUIFERS {
-            assert!(rt;
-                settles(&Aquifer::new(water, deep, threshold, flow), 12, refused),
-                "{}",
-                refused
-            );
-        }
+        assert_eq!(rt;
+            astray(
+                &AQUIFERS,
+                |[water, deep, threshold, flow]| Aquifer::new(water, deep, threshold, flow)
+            ),
+            None
+        );
     }
 
     const SURFACES: [([i64; 4], u64); 16] = [
@@ -59,13 +71,13 @@ mod tests {
 
     #[test]
     fn surfaces(rt: HostRuntime) {
-        for ([greatest, full, c1, c2], refused) in SURFACES {
-            assert!(rt;
-                settles(&Retention::new(greatest, full, c1, c2), 12, refused),
-                "{}",
-                refused
-            );
-        }
+        assert_eq!(rt;
+            astray(
+                &SURFACES,
+                |[greatest, full, c1, c2]| Retention::new(greatest, full, c1, c2)
+            ),
+            None
+        );
     }
 
     const PACKS: [([i64; 6], u64); 24] = [
@@ -97,17 +109,15 @@ mod tests {
 
     #[test]
     fn packs(rt: HostRuntime) {
-        for ([water, pack, fall, melt, lag, factor], refused) in PACKS {
-            assert!(rt;
-                settles(
-                    &Pack::new(water, pack, fall, melt, lag, factor),
-                    12,
-                    refused,
-                ),
-                "{}",
-                refused
-            );
-        }
+        assert_eq!(rt;
+            astray(
+                &PACKS,
+                |[water, pack, fall, melt, lag, factor]| Pack::new(
+                    water, pack, fall, melt, lag, factor,
+                )
+            ),
+            None
+        );
     }
 
     const LAYERS: [([i64; 6], u64); 27] = [
@@ -142,9 +152,14 @@ mod tests {
 
     #[test]
     fn layers(rt: HostRuntime) {
-        for ([wilting, capacity, water, down, aside, want], refused) in LAYERS {
-            let made = Layer::new(wilting, capacity, water, down, aside, want);
-            assert!(rt; settles(&made, 12, refused), "{}", refused);
-        }
+        assert_eq!(rt;
+            astray(
+                &LAYERS,
+                |[wilting, capacity, water, down, aside, want]| Layer::new(
+                    wilting, capacity, water, down, aside, want,
+                )
+            ),
+            None
+        );
     }
 }

@@ -3,12 +3,11 @@ ghost use Rattle.std.specs.Prelude.{◌+◌, ◌≤◌, length};
 
 #[cfg(test)]
 mod tests {
-    use crate::answers::tests::{denies, gives, refuses, refuses_at};
+    use crate::answers::tests::{Refusal, figures, refusal};
+    use refusals::values::Values;
     use refusals::weather::WeatherFault;
-    use sources::span::Span;
     use sources::table::WeatherTable;
     use std::test::Fail;
-    use weather::day::Day;
     use weather::source::WeatherSource;
 
     // Stations, days, first year and first date; the number and the value of the refusal, or 0.
@@ -37,34 +36,26 @@ mod tests {
         ([2, 1, 9_998, 364], 0, 0),
     ];
 
-    fn put_word(bytes: &mut [u8], place: usize, number: u32)
-        requires { place + 4 ≤ length bytes.old }
+    fn put<const N: usize>(bytes: &mut [u8], place: usize, part: [u8; N])
+        requires { place + N ≤ length bytes.old }
     {
-        bytes[place..place + 4].copy_from_slice(&number.to_le_bytes());
-    }
-
-    fn put_half(bytes: &mut [u8], place: usize, number: i16)
-        requires { place + 2 ≤ length bytes.old }
-    {
-        bytes[place..place + 2].copy_from_slice(&number.to_le_bytes());
+        bytes[place..place + N].copy_from_slice(&part);
     }
 
     fn put_header(bytes: &mut [u8], counts: [u32; 4], size: u32)
         requires { 20 ≤ length bytes.old }
     {
         let [stations, days, year, date] = counts;
-        put_word(bytes, 0, stations);
-        put_word(bytes, 4, days);
-        put_word(bytes, 8, year);
-        put_word(bytes, 12, date);
-        put_word(bytes, 16, size);
+        put(bytes, 0, stations.to_le_bytes());
+        put(bytes, 4, days.to_le_bytes());
+        put(bytes, 8, year.to_le_bytes());
+        put(bytes, 12, date.to_le_bytes());
+        put(bytes, 16, size.to_le_bytes());
     }
 
-    fn opens(bytes: &[u8], number: u32, value: u64) -> bool {
-        match Span::read(bytes) {
-            Ok(_) => number == 0,
-            Err(fault) => refuses(&fault, number, value),
-        }
+    // The refusal of bytes with this number and value, if there is one.
+    fn of_bytes(number: u32, value: u64) -> Refusal {
+        (number > 0).then_some((number, Values::One(value)))
     }
 
     #[test]
@@ -72,7 +63,8 @@ mod tests {
         for (counts, number, value) in HEADERS {
             let mut bytes = [0; 44];
             put_header(&mut bytes, counts, 44);
-            assert!(rt; opens(&bytes, number, value), "{}", number);
+            let opened = WeatherTable::open(&bytes);
+            assert_eq!(rt; refusal(opened), of_bytes(number, value), "{number}");
         }
     }
 
@@ -93,11 +85,12 @@ mod tests {
         for (size, count, number, value) in LENGTHS {
             let mut bytes = [0; 44];
             put_header(&mut bytes, [2, 1, 2000, 100], size);
-            assert!(rt; opens(&bytes[0..count.min(44)], number, value), "{}", count);
+            let opened = WeatherTable::open(&bytes[..count.min(44)]);
+            assert_eq!(rt; refusal(opened), of_bytes(number, value), "{count}");
         }
     }
 
-    // A record in field order.
+    // A record in field order; it is taken apart, not compared.
     #[derive(Clone, Copy)]
     struct Record(u32, i16, i16, u32);
 
@@ -141,42 +134,51 @@ mod tests {
         requires { place + 12 ≤ length bytes.old }
     {
         let Record(rain, highest, lowest, demand) = record;
-        put_word(bytes, place, rain);
-        put_half(bytes, place + 4, highest);
-        put_half(bytes, place + 6, lowest);
-        put_word(bytes, place + 8, demand);
+        put(bytes, place, rain.to_le_bytes());
+        put(bytes, place + 4, highest.to_le_bytes());
+        put(bytes, place + 6, lowest.to_le_bytes());
+        put(bytes, place + 8, demand.to_le_bytes());
     }
 
-    // The day is this record's, of this date.
-    fn holds(day: Day, date: u16, record: Record) -> bool {
+    // The figures of the record's day, of this date.
+    fn day_of(record: Record, date: i64) -> [i64; 5] {
         let Record(rain, highest, lowest, demand) = record;
-        day.date == date
-            && day.rain == rain
-            && day.highest == highest as i32
-            && day.lowest == lowest as i32
-            && day.demand == demand
+        [
+            date,
+            rain as i64,
+            highest as i64,
+            lowest as i64,
+            demand as i64,
+        ]
     }
 
-    // What the one record of a table answers.
-    fn says(record: Record, number: u32) -> bool {
+    // A table of this record alone.
+    fn one_day(record: Record) -> [u8; 32] {
         let mut bytes = [0; 32];
         put_header(&mut bytes, [1, 1, 2000, 365], 32);
         put_record(&mut bytes, 20, record);
-        let bytes: &[u8] = &bytes;
-        let Ok(span) = Span::read(bytes) else {
-            return false;
-        };
-        match (WeatherTable { bytes, span }).day(0, 0) {
-            Ok(day) => number == 0 && holds(day, 365, record),
-            Err(fault) => refuses_at(&fault, number, 0, 0),
-        }
+        bytes
+    }
+
+    fn open(bytes: &[u8]) -> Result<WeatherTable, Fail> {
+        WeatherTable::open(bytes).map_err(|_| Fail::new("no table"))
+    }
+
+    // The refusal of a day with this number, if there is one.
+    fn of_day(number: u32, station: u64, index: u64) -> Refusal {
+        (number > 0).then_some((number, Values::Two(station, index)))
     }
 
     #[test]
-    fn records(rt: HostRuntime) {
+    fn records(rt: HostRuntime) -> Result<(), Fail> {
         for (record, number) in RECORDS {
-            assert!(rt; says(record, number), "{}", number);
+            let bytes = one_day(record);
+            let told = open(&bytes)?.day(0, 0);
+            assert_eq!(rt; refusal(told), of_day(number, 0, 0), "{number}");
+            let day = (number == 0).then_some(day_of(record, 365));
+            assert_eq!(rt; told.ok().map(figures), day, "{number}");
         }
+        Ok(())
     }
 
     // Two stations of two days, the last of the year and the first.
@@ -193,17 +195,17 @@ mod tests {
     #[test]
     fn questions(rt: HostRuntime) -> Result<(), Fail> {
         let bytes = four_days();
-        let bytes: &[u8] = &bytes;
-        let Ok(span) = Span::read(bytes) else {
-            return Err(Fail::new("no table"));
-        };
-        let table = WeatherTable { bytes, span };
-        assert!(rt; table.stations() == 2 && table.days() == 2);
-        assert!(rt; matches!(table.date(0), Ok(365)) && matches!(table.date(1), Ok(1)));
-        assert!(rt; matches!(table.date(2), Err(WeatherFault::NoIndex(0, 2))));
-        assert!(rt; gives(&table, 0, 0, 365, 5_000) && gives(&table, 1, 1, 1, 5_000));
+        let table = open(&bytes)?;
+        assert_eq!(rt; (table.stations(), table.days()), (2, 2));
+        assert_eq!(rt; table.date(0), Ok(365));
+        assert_eq!(rt; table.date(1), Ok(1));
+        assert_eq!(rt; table.date(2), Err(WeatherFault::NoIndex(0, 2)));
+        let rain = |station, index| table.day(station, index).map(|day| (day.date, day.rain));
+        assert_eq!(rt; rain(0, 0), Ok((365, 5_000)));
+        assert_eq!(rt; rain(1, 1), Ok((1, 5_000)));
         for (station, index, number) in QUESTIONS {
-            assert!(rt; denies(&table, station, index, number), "{}", station);
+            let told = table.day(station, index);
+            assert_eq!(rt; refusal(told), of_day(number, station, index), "{station}");
         }
         Ok(())
     }

@@ -1,12 +1,14 @@
 // Turns at the limit, columns that pass it, and days worked by hand.
 #[cfg(test)]
 mod tests {
-    use crate::answers::tests::refuses;
+    use crate::answers::tests::{Refusal, refusal};
     use profile::layer::Layer;
     use profile::profile::Profile;
+    use refusals::values::Values;
     use snow::pack::Pack;
     use snow::snowpack::Snowpack;
     use stores::aquifer::Aquifer;
+    use stores::flows::Flows;
     use stores::rock::Rock;
     use stores::store::Store;
     use surface::retention::Retention;
@@ -18,18 +20,12 @@ mod tests {
         Day::new(1, 5_000, 400, 0, 1_000).ok()
     }
 
+    const OVERFULL: Refusal = Some((41, Values::One(0)));
+
     // A turn with this inflow is refused, and the store keeps its water.
     fn overflows<S: Store + Drop>(mut store: S, inflow: u32, day: &Day) -> bool {
         let before = store.water();
-        let refused = match store.turn(inflow, 0, day) {
-            Ok(_) => false,
-            Err(fault) => refuses(&fault, 41, 0),
-        };
-        match (before, store.water()) {
-            (Ok(a), Ok(b)) => refused && a == b,
-            (Err(_), Err(_)) => refused,
-            _ => false,
-        }
+        refusal(store.turn(inflow, 0, day)) == OVERFULL && store.water() == before
     }
 
     // A turn with this inflow is taken.
@@ -39,11 +35,9 @@ mod tests {
 
     // A column that passes the limit refuses all that is asked of it.
     fn refuses_all<S: Store + Drop>(store: S, day: &Day) -> bool {
-        let told = match (store.water(), store.root_water()) {
-            (Err(a), Err(b)) => refuses(&a, 41, 0) && refuses(&b, 41, 0),
-            _ => false,
-        };
-        told && overflows(store, 0, day)
+        refusal(store.water()) == OVERFULL
+            && refusal(store.root_water()) == OVERFULL
+            && overflows(store, 0, day)
     }
 
     // The store answers these flows and holds this water afterwards.
@@ -56,13 +50,8 @@ mod tests {
         water: u32,
     ) -> bool {
         let [side, vapour, deep] = flows;
-        let Ok(gone) = store.turn(inflow, demand, day) else {
-            return false;
-        };
-        let Ok(left) = store.water() else {
-            return false;
-        };
-        gone.side == side && gone.vapour == vapour && gone.deep == deep && left == water
+        store.turn(inflow, demand, day) == Ok(Flows { side, vapour, deep })
+            && store.water() == Ok(water)
     }
 
     fn pack(water: i64) -> Option<Pack> {
@@ -100,7 +89,7 @@ mod tests {
 
     #[test]
     fn bottoms(rt: HostRuntime) {
-        assert!(rt; bottoms_at_the_limit() == Some(true));
+        assert_eq!(rt; bottoms_at_the_limit(), Some(true));
     }
 
     fn layered_at_the_limit() -> Option<bool> {
@@ -126,7 +115,7 @@ mod tests {
 
     #[test]
     fn layers_at_the_limit(rt: HostRuntime) {
-        assert!(rt; layered_at_the_limit() == Some(true));
+        assert_eq!(rt; layered_at_the_limit(), Some(true));
     }
 
     fn over_the_limit() -> Option<bool> {
@@ -144,7 +133,7 @@ mod tests {
     // Each part is within the limit, and the column is not.
     #[test]
     fn columns_over_the_limit(rt: HostRuntime) {
-        assert!(rt; over_the_limit() == Some(true));
+        assert_eq!(rt; over_the_limit(), Some(true));
     }
 
     fn worked_days() -> Option<bool> {
@@ -174,21 +163,18 @@ mod tests {
 
     #[test]
     fn worked(rt: HostRuntime) {
-        assert!(rt; worked_days() == Some(true));
+        assert_eq!(rt; worked_days(), Some(true));
     }
 
     fn eleven_layers() -> Option<bool> {
         let mut full = profile(200_000, 10)?;
         let layer = Layer::new(0, 1, 0, 0, 0, 0).ok()?;
-        let refused = match full.add(layer) {
-            Ok(()) => false,
-            Err(fault) => refuses(&fault, 13, 10),
-        };
-        Some(refused && matches!(full.water(), Ok(2_000_000)))
+        let refused = refusal(full.add(layer)) == Some((13, Values::One(10)));
+        Some(refused && full.water() == Ok(2_000_000))
     }
 
     #[test]
     fn an_eleventh_layer(rt: HostRuntime) {
-        assert!(rt; eleven_layers() == Some(true));
+        assert_eq!(rt; eleven_layers(), Some(true));
     }
 }

@@ -1,5 +1,5 @@
 -- A basin of the program's settings is the small basin. Assumes nothing.
-use Rattle.std.proofs.Common.{◌≡◌, ℕ, false, List, [], ◌∷◌, map, Option, refl, ap, arith}
+use Rattle.std.proofs.Common.{◌≡◌, ℕ, false, List, [], ◌∷◌, map, Option, refl, ap}
 use mathlib.Core.Bool.{Bool-set}
 use mathlib.Core.HLevel.{is_prop→PathP}
 use Rattle.fixed.proofs.Bounds.{le_at, share_same}
@@ -64,8 +64,8 @@ reach_same r q e =
 -- lists are equal where their settings are, if settings tell records apart
 map_same : {A B : Type 0} (f : A → B) → ((x y : A) → f x ≡ f y → x ≡ y) → (xs ys : List A) → map f xs ≡ map f ys → xs ≡ ys
 map_same f h [] [] e = refl
-map_same f h [] (y ∷ ys) e = let z : ◌≡◌ {A = ℕ} 0 1 = cc in absurd (omega arith)
-map_same f h (x ∷ xs) [] e = let z : ◌≡◌ {A = ℕ} 0 1 = cc in absurd (omega arith)
+map_same f h [] (y ∷ ys) e = cc
+map_same f h (x ∷ xs) [] e = cc
 map_same f h (x ∷ xs) (y ∷ ys) e =
     let first = h x y (cc) in
     let rest = map_same f h xs ys (cc) in

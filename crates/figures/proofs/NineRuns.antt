@@ -47,7 +47,7 @@ four_readings x e n = ap log_bytes (e ∙ ap figures_with n) ∙ two_days_log
 -- a stop without a refusal is shown as 0
 no_stop : (o : Option BasinFault) → option_map basin_refusal o ≡ None → stop_number o ≡ 0
 no_stop None e = refl
-no_stop (Some x) e = let z : ◌≡◌ {A = ℕ} 0 1 = cc in absurd (omega arith)
+no_stop (Some x) e = cc
 
 -- an answer that the rules fix so tells these figures
 figures_told : (r : Answer) → fixed r ≡ fixed two_answer → told_of r ≡ figures_with r.readings

@@ -1,5 +1,6 @@
 -- The two days of the small basin. Assumes nothing.
 use Rattle.std.proofs.Common.{◌≡◌, ℕ, zero, suc, ◌+◌, ◌<◌, ◌≤◌, List, [], ◌∷◌, get_or, pos, Some, None, refl, ap, arith, lit≤}
+use borrow.Author.Count.{below_none, below_more}
 use lib.Signed.{le_z_yes}
 use Rattle.fixed.proofs.Bounds.{le_at}
 use Rattle.fixed.specs.Limits.{outside}
@@ -18,7 +19,7 @@ use Rattle.stores.specs.declared.rock.Rock.{Rock}
 use Rattle.snow.specs.Pack.{warmed_to, snow_of, melt_at}
 use Rattle.snow.specs.declared.snowpack.Snowpack.{Snowpack}
 use Rattle.columns.specs.Columns.{rock_water, rock_turns}
-use Rattle.network.specs.Records.{site0, reach0, unit0, flow0}
+use Rattle.network.specs.Records.{site0, unit0}
 use Rattle.network.specs.declared.flows.UnitFlow.{UnitFlow}
 use Rattle.network.specs.declared.flows.ReachFlow.{ReachFlow}
 use Rattle.network.specs.declared.reach.Reach.{Reach}
@@ -48,6 +49,11 @@ bytes_mean bytes e p q j =
 pub table_means_lem : (t : WeatherTable) → t.bytes.now ≡ table_bytes → table_means t ≡ small_weather
 table_means_lem t e = bytes_mean t.bytes.now e (table_means t).some_stations (table_means t).some_days
 
+-- ---- lists of one record
+-- what holds at 0 holds at each index
+pub at_one : (P : ℕ → Type 0) → P 0 → (i : ℕ) → i < 1 → P i
+at_one P p = below_more P 0 (below_none P) p
+
 -- ---- a day of a basin with one unit and one reach
 -- the reach with so much water
 abbrev pub reach_with : ℕ → Reach
@@ -67,14 +73,9 @@ module _ (m : Meaning) (index : ℕ) (u v : Snowpack Rock) (x y : ℕ) (f : Unit
   only_unit d zero z h = d
   only_unit d (suc i) z h = absurd (let n : ⊥ = omega arith in n)
 
-  -- nor a second reach
-  only_reach : ReachDay (sides 0 (small_site ∷ []) (f ∷ []) + arriving 0 (reach_with x ∷ []) (g ∷ [])) (demand_at m 0 index) (reach_with x) (reach_with y) g → (j : ℕ) → j < 1 → ReachDay (sides j (small_site ∷ []) (f ∷ []) + arriving j (reach_with x ∷ []) (g ∷ [])) (demand_at m (get_or (reach_with x ∷ []) j reach0).channel.station index) (get_or (reach_with x ∷ []) j reach0) (get_or (reach_with y ∷ []) j reach0) (get_or (g ∷ []) j flow0)
-  only_reach d zero h = d
-  only_reach d (suc j) h = absurd (let n : ⊥ = omega arith in n)
-
   -- the day of both is the basin's
   small_day : day_stop rock_water m index (small_site ∷ []) (tables_with u x) ≡ None → UnitDay rock_water rock_turns m 0 index u v f → ReachDay (sides 0 (small_site ∷ []) (f ∷ []) + arriving 0 (reach_with x ∷ []) (g ∷ [])) (demand_at m 0 index) (reach_with x) (reach_with y) g → DayOf rock_water rock_turns m index (small_site ∷ []) (tables_with u x) (tables_with v y) (both_move f g)
-  small_day s d e = record { no_stop = s; units_long = refl; flows_long = refl; reaches_long = refl; reach_flows_long = refl; unit = only_unit d; reach = only_reach e }
+  small_day s d e = record { no_stop = s; units_long = refl; flows_long = refl; reaches_long = refl; reach_flows_long = refl; unit = only_unit d; reach = at_one _ e }
 
 -- ---- the first day: rain, which runs off the rock
 -- its weather

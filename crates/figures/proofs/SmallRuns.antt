@@ -1,16 +1,15 @@
 -- The runs over the small basin: one outcome of each written down, and that two days have no other. Assumes nothing.
-use Rattle.std.proofs.Common.{◌≡◌, ℕ, zero, suc, ◌<◌, List, [], ◌∷◌, get_or, refl, arith, lit<, lit≤}
+use Rattle.std.proofs.Common.{◌≡◌, ℕ, List, [], ◌∷◌, refl, lit<, lit≤}
 use Rattle.weather.specs.Meaning.{Meaning}
 use Rattle.stores.specs.declared.rock.Rock.{Rock}
 use Rattle.snow.specs.declared.snowpack.Snowpack.{Snowpack}
 use Rattle.columns.specs.Columns.{rock_water, rock_turns}
-use Rattle.network.specs.Records.{unit0, flow0}
 use Rattle.network.specs.declared.flows.UnitFlow.{UnitFlow}
 use Rattle.network.specs.declared.flows.ReachFlow.{ReachFlow}
 use Rattle.basin.specs.declared.answer.Answer.{Answer}
 use Rattle.basin.specs.Tables.{View}
 use Rattle.basin.specs.Day.{Moved}
-use Rattle.basin.specs.Run.{Days, none, more, unit_over, reach_over}
+use Rattle.basin.specs.Run.{Days, none, more}
 use Rattle.basin.specs.Calls.{run, Step, History, fresh, then}
 use Rattle.law.specs.Agreement.{fixed, SameAnswer, same_run, run_again}
 use Rattle.law.proofs.Repeated.{calls_agree}
@@ -18,18 +17,7 @@ use Rattle.figures.specs.Small.{small_site, cold_unit, warm_unit, small_basin, d
 use Rattle.figures.specs.TwoDays.{two_units, two_reaches, two_days_on, two_answer, TwoDayOutcome}
 use Rattle.figures.specs.Example.{last_basin, four_calls, whole_run, stopped_run}
 use Rattle.figures.proofs.Rocks.{rock_single}
-use Rattle.figures.proofs.SmallDays.{tables_with, both_move, wet_day_lem, dry_day_lem, no_third_day_lem}
-
--- ---- lists of one record
--- of the unit
-only_unit : (f : UnitFlow) (t : List Moved) → f ≡ unit_over 0 t → (i : ℕ) → i < 1 → get_or (f ∷ []) i unit0 ≡ unit_over i t
-only_unit f t e zero h = e
-only_unit f t e (suc i) h = absurd (let n : ⊥ = omega arith in n)
-
--- of the reach
-only_reach : (g : ReachFlow) (t : List Moved) → g ≡ reach_over 0 t → (j : ℕ) → j < 1 → get_or (g ∷ []) j flow0 ≡ reach_over j t
-only_reach g t e zero h = e
-only_reach g t e (suc j) h = absurd (let n : ⊥ = omega arith in n)
+use Rattle.figures.proofs.SmallDays.{at_one, tables_with, both_move, wet_day_lem, dry_day_lem, no_third_day_lem}
 
 -- ---- what the days move, the newest first
 abbrev wet_moved : List Moved
@@ -59,7 +47,7 @@ both_days = more first_day dry_day_lem
 pub runs_two_days : (u : UnitFlow) (f : ReachFlow) → Step rock_water rock_turns dry_basin (run small_weather 2 (u ∷ []) (f ∷ []) two_units two_reaches two_answer) two_days_on
 runs_two_days u f = record {
   ran = record {
-    going = record { moved = both_moved; days = both_days; count = refl; sums_are = refl; unit_list = only_unit _ both_moved refl; reach_list = only_reach _ both_moved refl };
+    going = record { moved = both_moved; days = both_days; count = refl; sums_are = refl; unit_list = at_one _ refl; reach_list = at_one _ refl };
     ends = refl;
     start_is = refl;
     end_is = refl;
@@ -89,7 +77,7 @@ only_two_days u f us rs r b s =
 whole_run_lem : Step rock_water rock_turns dry_basin whole_run (small_basin warm_unit 25000 1)
 whole_run_lem = record {
   ran = record {
-    going = record { moved = wet_moved; days = first_day; count = refl; sums_are = refl; unit_list = only_unit _ wet_moved refl; reach_list = only_reach _ wet_moved refl };
+    going = record { moved = wet_moved; days = first_day; count = refl; sums_are = refl; unit_list = at_one _ refl; reach_list = at_one _ refl };
     ends = refl;
     start_is = refl;
     end_is = refl;
@@ -105,7 +93,7 @@ whole_run_lem = record {
 stopped_run_lem : Step rock_water rock_turns (small_basin warm_unit 25000 1) stopped_run (small_basin warm_unit 12500 2)
 stopped_run_lem = record {
   ran = record {
-    going = record { moved = dry_moved; days = second_day; count = refl; sums_are = refl; unit_list = only_unit _ dry_moved refl; reach_list = only_reach _ dry_moved refl };
+    going = record { moved = dry_moved; days = second_day; count = refl; sums_are = refl; unit_list = at_one _ refl; reach_list = at_one _ refl };
     ends = (lit< tt, no_third_day_lem);
     start_is = refl;
     end_is = refl;

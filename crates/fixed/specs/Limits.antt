@@ -1,5 +1,5 @@
 -- Limits of a setting or a figure. Assumes nothing.
-use Rattle.std.specs.Prelude.{◌≡◌, ℕ, ◌≤◌, Bool, true, false, cond, ◌||◌, List, [], ◌∷◌, ℤ, pos, ◌≤ℤ◌, Some, None, Option, int_lt}
+use Rattle.std.specs.Prelude.{◌≡◌, ℕ, ◌≤◌, Bool, true, false, cond, ◌||◌, List, [], ◌∷◌, ℤ, pos, ◌≤ℤ◌, Some, None, Ok, Option, Result, int_lt}
 
 -- z is under the least or over the greatest
 unfoldable pub outside : ℤ → ℤ → ℤ → Bool
@@ -9,6 +9,11 @@ outside least greatest z = int_lt z least || int_lt greatest z
 abbrev pub first : {X : Type 0} → List (Bool × X) → Option X
 first [] = None
 first (t ∷ ts) = cond t.0 (Some t.1) (first ts)
+
+-- a value within its limits, as a conversion gives it, where the value handed over is one
+abbrev pub Within : {T E : Type 0} → (ℤ → Result T E → Type 0) → ℤ → ℤ → ℤ → Option T → Type 0
+Within gives least greatest z None = outside least greatest z ≡ true
+Within gives least greatest z (Some n) = (outside least greatest z ≡ false) × (least ≤ℤ z) × (z ≤ℤ greatest) × gives z (Ok n)
 
 -- a natural number within its limits, where the value handed over is one
 abbrev pub NaturalIn : ℕ → ℕ → ℤ → Option ℕ → Type 0

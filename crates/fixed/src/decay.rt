@@ -16,7 +16,9 @@ const CONSTANTS: [u32; 14] = [
 
 // e times the constant of the bit of k at a place, cut, where that bit is set.
 fn decay_bit(k: u32, place: u32, constant: u32, e: u32) -> u32
-    requires { (place < 32) × ((constant ≤ 1000000000) × (e ≤ 1000000000)) }
+    requires shifts { place < 32 }
+    requires factor { constant ≤ 1000000000 }
+    requires bounded { e ≤ 1000000000 }
     ensures value { result ≡ decay_bit k place constant e }
     ensures bound { result ≤ 1000000000 }
 {
@@ -33,8 +35,8 @@ fn decay_below(k: u32) -> u32
     ensures bound { result ≤ 1000000000 }
 {
     let mut e = ONE;
-    for i in 0..14 {
-        e = decay_bit(k, 13 - i as u32, CONSTANTS[i], e);
+    for (i, constant) in CONSTANTS.iter().enumerate() {
+        e = decay_bit(k, 13 - i as u32, *constant, e);
     }
     e
 }

@@ -7,32 +7,35 @@ use crate::shape::Shape;
 use crate::share::Share;
 
 // The curve at a moisture x above 0 and the exponent a, where e is exp(-|a|) in millionths.
-fn moisture_by(x: u32, a: i32, e: u32) -> u32
-    requires { (0 < x) × ((x ≤ 1000000) × (e ≤ 1000000)) }
-    ensures value { result ≡ moisture_by x a e }
-    ensures bound { result ≤ 1000000 }
+fn moisture_by(x: Share, a: i32, e: u32) -> Share
+    requires moist { 0 < x.millionths }
+    requires falling { e ≤ 1000000 }
+    ensures { result.millionths ≡ moisture_by x.millionths a e }
 {
+    let x = x.millionths as u64;
     if a >= 0 {
-        let product = x as u64 * e as u64;
-        (1_000_000 * product / (product + 1_000_000_000_000)) as u32
+        let product = x * e as u64;
+        Share {
+            millionths: (1_000_000 * product / (product + 1_000_000_000_000)) as u32,
+        }
     } else {
-        (1_000_000 * x as u64 / (x as u64 + e as u64)) as u32
+        Share {
+            millionths: (1_000_000 * x / (x + e as u64)) as u32,
+        }
     }
 }
 
 impl Shape {
-    fn exponent(&self, x: u32) -> i32
-        requires { x ≤ 1000000 }
-        ensures { result ≡ exponent_at x self.now.c1 self.now.c2 }
+    fn exponent(&self, x: Share) -> i32
+        ensures { result ≡ exponent_at x.millionths self.now.c1 self.now.c2 }
     {
-        self.c1 - (self.c2 as u64 * x as u64 / 1_000_000) as i32
+        self.c1 - (self.c2 as u64 * x.millionths as u64 / 1_000_000) as i32
     }
 
     // The curve at a moisture above 0.
-    fn above(&self, x: u32) -> u32
-        requires { (0 < x) × (x ≤ 1000000) }
-        ensures value { result ≡ moisture_above x self.now.c1 self.now.c2 }
-        ensures bound { result ≤ 1000000 }
+    fn above(&self, x: Share) -> Share
+        requires { 0 < x.millionths }
+        ensures { result.millionths ≡ moisture_above x.millionths self.now.c1 self.now.c2 }
     {
         let a = self.exponent(x);
         let e = decay(a.unsigned_abs()) / 1000;
@@ -46,8 +49,6 @@ impl Shape {
         if x.millionths == 0 {
             return x;
         }
-        Share {
-            millionths: self.above(x.millionths),
-        }
+        self.above(x)
     }
 }

@@ -1,7 +1,7 @@
 // The two shape coefficients of a soil-moisture curve, in 1,024ths.
 ghost use Rattle.std.specs.Prelude.{◌≤◌, pos, negsuc, ◌≤ℤ◌};
 
-#[derive(Clone, Copy)]
+#[derive(Clone, Copy, Debug, PartialEq, Eq)]
 pub struct Shape {
     pub c1: i32,
     pub c2: u32,

@@ -8,7 +8,7 @@ use crate::limits::natural;
 
 pub const WHOLE: u32 = 1_000_000;
 
-#[derive(Clone, Copy)]
+#[derive(Clone, Copy, Debug, PartialEq, Eq)]
 pub struct Share {
     pub millionths: u32,
     ghost within: { millionths ≤ 1000000 },
@@ -38,6 +38,7 @@ fn part(amount: u64, share: u32) -> u64
     ensures value { result ≡ part_of amount share }
     ensures bound { result ≤ amount }
 {
+    // A match, as `map_or_else` would name the rare case first.
     match amount.checked_mul(share as u64) {
         Some(product) => product / WHOLE as u64,
         None => (amount as u128 * share as u128 / WHOLE as u128) as u64,

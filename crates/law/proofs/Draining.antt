@@ -29,14 +29,14 @@ module _ {S T : Type 0} {same : S → T → Type 0} {j : ℕ} {a : View S} {a' :
   over : {k : ℕ} → Drains a'.state.reaches j k → Drains a.state.reaches j k
   over itself = itself
   over (through {k = k} h e d) =
-      let here : k < length a.state.reaches = omega (arith, h, al.reaches_long) in
+      let here : k < length a.state.reaches = omega arith in
       through here (ap (λ (x : Reach). x.channel.next) (al.reach k here (inr (through h e d))) ∙ e) (over d)
 
   -- from the first to the second
   back : {k : ℕ} → Drains a.state.reaches j k → Drains a'.state.reaches j k
   back itself = itself
   back (through {k = k} h e d) =
-      let there : k < length a'.state.reaches = omega (arith, h, al.reaches_long) in
+      let there : k < length a'.state.reaches = omega arith in
       through there (sym (ap (λ (x : Reach). x.channel.next) (al.reach k h (inl (through h e d)))) ∙ e) (back d)
 
   -- what drains in the first to what drains in either drains in either
@@ -46,8 +46,8 @@ module _ {S T : Type 0} {same : S → T → Type 0} {j : ℕ} {a : View S} {a' :
 
   -- and so in the second
   up_either' : (k l : ℕ) → k < length a.state.reaches → (get_or a'.state.reaches k reach0).channel.next ≡ Some l → Either j a a' l → Either j a a' k
-  up_either' k l h e (inl d) = inr (through (omega (arith, h, al.reaches_long)) e (back d))
-  up_either' k l h e (inr d) = inr (through (omega (arith, h, al.reaches_long)) e d)
+  up_either' k l h e (inl d) = inr (through (omega arith) e (back d))
+  up_either' k l h e (inr d) = inr (through (omega arith) e d)
 
   -- so the two are alike as the days take them
   like_first : Like same (Either j a a') a.sites a.state a'.state
@@ -92,8 +92,8 @@ module _ {S T : Type 0} (same : S → T → Type 0) (water : S → ℕ) (turns :
       ((d : ℕ) → d < length t → Skies (Either j a a') a.sites b.reaches m m' (from + d)) → j < length b.reaches →
       Like same (Either j a a') a.sites c c' × ((reach_over j t).outflow ≡ (reach_over j t').outflow)
   days_both [] [] like none none e s s' w h = (like, refl)
-  days_both [] (f' ∷ t') like d d' e s s' w h = absurd (let z : ⊥ = omega arith in z)
-  days_both (f ∷ t) [] like d d' e s s' w h = absurd (let z : ⊥ = omega arith in z)
+  days_both [] (f' ∷ t') like d d' e s s' w h = absurd (omega arith)
+  days_both (f ∷ t) [] like d d' e s s' w h = absurd (omega arith)
   days_both (f ∷ t) (f' ∷ t') like d d' e s s' w h =
       let both = days_like alike (places al) like (s (omega arith)) (s' (omega arith)) d d' e w in
       (both.0, both.1 j h (inl itself))
@@ -103,22 +103,22 @@ module _ {S T : Type 0} (same : S → T → Type 0) (water : S → ℕ) (turns :
       Went water turns m us' rs' r b c → Went water' turns' m' vs' ts' q b' c' → Both c c' × ((cond (writes r) (get_or rs' j flow0) flow0).outflow ≡ (cond (writes q) (get_or ts' j flow0) flow0).outflow)
   run_both {b} {c} {b'} {c'} {m} {m'} {us'} {vs'} {rs'} {ts'} {r} {q} cs cs' equal like kept kept' count weather go go' =
       let from = a.day + sum_by days_of cs in
-      let day' : b'.day ≡ from = omega (arith, kept'.day, equal, al.day) in
+      let day' : b'.day ≡ from = omega arith in
       let w : Days water turns m from a.sites b.state go.moved c.state = subst (λ (l : List Site). Days water turns m from l b.state go.moved c.state) kept.sites (subst (λ (k : ℕ). Days water turns m k b.sites b.state go.moved c.state) kept.day go.days) in
       let w' : Days water' turns' m' from a'.sites b'.state go'.moved c'.state = subst (λ (l : List Site). Days water' turns' m' from l b'.state go'.moved c'.state) kept'.sites (subst (λ (k : ℕ). Days water' turns' m' k b'.sites b'.state go'.moved c'.state) day' go'.days) in
-      let long : length go'.moved ≡ length go.moved = omega (arith, go.count, go'.count, count) in
+      let long : length go'.moved ≡ length go.moved = omega arith in
       let s : 1 ≤ length go.moved → Sound (length b.state.units) a.sites b.state.reaches = λ h. subst (λ (l : List Site). Sound (length b.state.units) l b.state.reaches) kept.sites (go.sound h) in
       let s' : 1 ≤ length go'.moved → Sound (length b'.state.units) a'.sites b'.state.reaches = λ h. subst (λ (l : List Site). Sound (length b'.state.units) l b'.state.reaches) kept'.sites (go'.sound h) in
       let skies : (d : ℕ) → d < length go.moved → Skies (Either j a a') a.sites b.state.reaches m m' (from + d) = λ d l.
-      let d0 : d < r.days = omega (arith, l, go.count) in
+      let d0 : d < r.days = omega arith in
       record {
         sites = λ i h p. weather.at_sites i d h d0 p;
         reaches = λ k h p.
-            let h0 : k < length a.state.reaches = omega (arith, h, kept.steady.reaches) in
+            let h0 : k < length a.state.reaches = omega arith in
             subst (λ (x : Channel). asked m x.station (from + d) ≡ asked m' x.station (from + d)) (sym (kept.steady.channel k h0)) (weather.at_reaches k d h0 d0 p);
       } in
-      let here : j < length b.state.reaches = omega (arith, inside, kept.steady.reaches) in
-      let there : j < length b'.state.reaches = omega (arith, here, like.reaches_long) in
+      let here : j < length b.state.reaches = omega arith in
+      let there : j < length b'.state.reaches = omega arith in
       let both = days_both go.moved go'.moved like w w' long s s' skies here in
       (both.0, ap (λ (x : ReachFlow). x.outflow) (go.reach_told j here) ∙ both.1 ∙ sym (ap (λ (x : ReachFlow). x.outflow) (go'.reach_told j there)))
 

@@ -24,7 +24,7 @@ view_same a b s t d j = record { sites = s j; state = t j; day = d j }
 
 -- two lists of zeros, cleared from one list
 cleared_same : {X : Type 0} (x : X) (xs ys zs : List X) → Cleared x xs ys → Cleared x xs zs → ys ≡ zs
-cleared_same x xs ys zs p q = ext_get_or x ys zs (p.0 ∙ sym q.0) (λ i h. p.1 i h ∙ sym (q.1 i (omega (arith, h, p.0, q.0))))
+cleared_same x xs ys zs p q = ext_get_or x ys zs (p.0 ∙ sym q.0) (λ i h. p.1 i h ∙ sym (q.1 i (omega arith)))
 
 -- runs that were not started
 unstarted_same : {S : Type 0} (e : Refusal) (a b c : View S) (r q : Answer) → Unstarted e a b r → Unstarted e a c q → (b ≡ c) × (fixed r ≡ fixed q)

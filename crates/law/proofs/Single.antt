@@ -71,30 +71,30 @@ module _ {S : Type 0} (water : S → ℕ) (turns : S → ℕ → ℕ → Day →
     -- the tables are the same
     tables_same : b ≡ c
     tables_same = state_same b c
-        (same_lists b.units c.units (d.units_long ∙ sym e.units_long) (λ i z h. after.unit i z z (omega (arith, h, d.units_long, fit.many)) h (omega (arith, h, d.units_long, e.units_long)) tt))
+        (same_lists b.units c.units (d.units_long ∙ sym e.units_long) (λ i z h. after.unit i z z (omega arith) h (omega arith) tt))
         (ext_get_or reach0 b.reaches c.reaches (d.reaches_long ∙ sym e.reaches_long) (λ j h. after.reach j h tt))
 
     -- a unit moves the same
     unit_same : (i : ℕ) → i < length a.units → get_or f.units i unit0 ≡ get_or g.units i unit0
     unit_same i h =
         let z = one_of a.units i h in
-        flow_same (get_or f.units i unit0) (get_or g.units i unit0) (unit_rain (d.unit i z h) ∙ sym (unit_rain (e.unit i z h))) (unit_like (equal_alike turns single) pl like fit fit d e skies i z z (omega (arith, h, fit.many)) tt).1
+        flow_same (get_or f.units i unit0) (get_or g.units i unit0) (unit_rain (d.unit i z h) ∙ sym (unit_rain (e.unit i z h))) (unit_like (equal_alike turns single) pl like fit fit d e skies i z z (omega arith) tt).1
 
     -- and all that moved
     flows_same : f ≡ g
     flows_same = moved_same f g
-        (ext_get_or unit0 f.units g.units (d.flows_long ∙ sym e.flows_long) (λ i h. unit_same i (omega (arith, h, d.flows_long))))
-        (ext_get_or flow0 f.reaches g.reaches (d.reach_flows_long ∙ sym e.reach_flows_long) (λ j h. flow_like (equal_alike turns single) pl like fit fit d e skies j (omega (arith, h, d.reach_flows_long)) tt))
+        (ext_get_or unit0 f.units g.units (d.flows_long ∙ sym e.flows_long) (λ i h. unit_same i (omega arith)))
+        (ext_get_or flow0 f.reaches g.reaches (d.reach_flows_long ∙ sym e.reach_flows_long) (λ j h. flow_like (equal_alike turns single) pl like fit fit d e skies j (omega arith) tt))
 
   -- ---- days
   module _ (from : ℕ) (ss : List Site) (a : State S) (fit : Sound (length a.units) ss a.reaches) where
     -- equally many accepted days
     days_same : {t s : List Moved} {b c : State S} → Days water turns m from ss a t b → Days water turns m from ss a s c → length t ≡ length s → (b ≡ c) × (t ≡ s)
     days_same none none h = (refl, refl)
-    days_same none (more q e) h = absurd (let z : ⊥ = omega (arith, h) in z)
-    days_same (more p d) none h = absurd (let z : ⊥ = omega (arith, h) in z)
+    days_same none (more q e) h = absurd (omega arith)
+    days_same (more p d) none h = absurd (omega arith)
     days_same (more {t = t} {c = u} {b = b} {f = f} p d) (more {t = s} {c = v} {b = c} {f = g} q e) h =
-        let long : length t ≡ length s = omega (arith, h) in
+        let long : length t ≡ length s = omega arith in
         let before = days_same p q long in
         let moved : DayOf water turns m (from + length t) ss v c g = subst (λ (n : ℕ). DayOf water turns m (from + n) ss v c g) (sym long) e in
         let here : DayOf water turns m (from + length t) ss u c g = subst (λ (x : State S). DayOf water turns m (from + length t) ss x c g) (sym before.0) moved in
@@ -114,22 +114,22 @@ module _ {S : Type 0} (water : S → ℕ) (turns : S → ℕ → ℕ → Day →
 
     -- every index before the last day has its stage
     stage : {t : List Moved} {b : State S} (n : ℕ) → Days water turns m from ss a t b → n < length t → Stage n
-    stage n none h = absurd (let z : ⊥ = omega (arith, h) in z)
+    stage n none h = absurd (omega arith)
     stage n (more {t = t} {c = c} {b = b} {f = f} p d) h =
         elim (leb_tells (length t) n) [
-          | inl x ↦ let long : length t ≡ n = omega (arith, h, x.1) in record { moved = t; at = c; after = b; flow = f; days = p; count = sym long; next = subst (λ (k : ℕ). DayOf water turns m (from + k) ss c b f) long d }
+          | inl x ↦ let long : length t ≡ n = omega arith in record { moved = t; at = c; after = b; flow = f; days = p; count = sym long; next = subst (λ (k : ℕ). DayOf water turns m (from + k) ss c b f) long d }
           | inr x ↦ stage n p x.1
         ]
 
     module _ (n : ℕ) where
       -- a run ends within its days
       ends_within : (b : State S) (k : ℕ) (o : Option BasinFault) → Ends water m from n ss b k o → k ≤ n
-      ends_within b k None e = omega (arith, e)
-      ends_within b k (Some r) e = omega (arith, e.0)
+      ends_within b k None e = omega arith
+      ends_within b k (Some r) e = omega arith
 
       -- days that have ended are not fewer than others
       not_fewer : {t s : List Moved} {b c : State S} (o : Option BasinFault) → Days water turns m from ss a t b → Ends water m from n ss b (length t) o → Days water turns m from ss a s c → length s ≤ n → length t < length s → ⊥
-      not_fewer None p e q h l = omega (arith, e, h, l)
+      not_fewer None p e q h l = omega arith
       not_fewer {t} {s} {b} {c} (Some r) p e q h l =
           let g = stage (length t) q l in
           let same = (days_same p g.days g.count).0 in
@@ -138,8 +138,8 @@ module _ {S : Type 0} (water : S → ℕ) (turns : S → ℕ → ℕ → Day →
       -- why they ended, by number and values
       ends_same : (b : State S) (k : ℕ) (o p : Option BasinFault) → Ends water m from n ss b k o → Ends water m from n ss b k p → option_map basin_refusal o ≡ option_map basin_refusal p
       ends_same b k None None x y = refl
-      ends_same b k None (Some q) x y = absurd (let z : ⊥ = omega (arith, x, y.0) in z)
-      ends_same b k (Some r) None x y = absurd (let z : ⊥ = omega (arith, x.0, y) in z)
+      ends_same b k None (Some q) x y = absurd (omega arith)
+      ends_same b k (Some r) None x y = absurd (omega arith)
       ends_same b k (Some r) (Some q) x y = sym x.1 ∙ y.1
 
       -- two runs over the same tables
@@ -151,7 +151,7 @@ module _ {S : Type 0} (water : S → ℕ) (turns : S → ℕ → ℕ → Day →
           let ey : Ends water m from n ss c (length o.moved) q.stop = subst (λ (k : ℕ). Ends water m from n ss c k q.stop) o.count y.ends in
           let less = not_fewer r.stop p.days ex o.days (ends_within c (length o.moved) q.stop ey) in
           let most = not_fewer q.stop o.days ey p.days (ends_within b (length p.moved) r.stop ex) in
-          let long : length p.moved ≡ length o.moved = omega (arith, less, most) in
+          let long : length p.moved ≡ length o.moved = omega arith in
           let same = days_same p.days o.days long in
           let here : Ends water m from n ss b (length p.moved) q.stop = subst (λ (v : State S). Ends water m from n ss v (length p.moved) q.stop) (sym same.0) (subst (λ (k : ℕ). Ends water m from n ss c k q.stop) (sym long) ey) in
           let days : r.days ≡ q.days = p.count ∙ long ∙ sym o.count in
@@ -161,7 +161,7 @@ module _ {S : Type 0} (water : S → ℕ) (turns : S → ℕ → ℕ → Day →
           let stop = ends_same b (length p.moved) r.stop q.stop ex here in
           record {
             basin = same.0;
-            unit_list = ext_get_or unit0 us vs units_long (λ i h. p.unit_list i h ∙ ap (unit_over i) same.1 ∙ sym (o.unit_list i (omega (arith, h, units_long))));
-            reach_list = ext_get_or flow0 rs ts reaches_long (λ i h. p.reach_list i h ∙ ap (reach_over i) same.1 ∙ sym (o.reach_list i (omega (arith, h, reaches_long))));
+            unit_list = ext_get_or unit0 us vs units_long (λ i h. p.unit_list i h ∙ ap (unit_over i) same.1 ∙ sym (o.unit_list i (omega arith)));
+            reach_list = ext_get_or flow0 rs ts reaches_long (λ i h. p.reach_list i h ∙ ap (reach_over i) same.1 ∙ sym (o.reach_list i (omega arith)));
             told = λ j. record { days = days j; sums = sums j; start = start j; end = end j; stop = stop j };
           }

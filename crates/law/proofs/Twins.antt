@@ -27,10 +27,10 @@ use Rattle.basin.proofs.Steady.{same_day, same_days, sound_same, set_channel}
 sides_same : (k : ℕ) (ss ss' : List Site) (fs fs' : List UnitFlow) → length fs ≡ length ss → length ss' ≡ length ss → length fs' ≡ length ss →
     ((i : ℕ) → i < length ss → cond (eqb (get_or ss i site0).reach k) ((get_or ss i site0).area * (get_or fs i unit0).side) 0 ≡ cond (eqb (get_or ss' i site0).reach k) ((get_or ss' i site0).area * (get_or fs' i unit0).side) 0) → sides k ss fs ≡ sides k ss' fs'
 sides_same k [] [] fs fs' e1 e2 e3 h = refl
-sides_same k [] (s' ∷ ss') fs fs' e1 e2 e3 h = absurd (let z : ⊥ = omega arith in z)
-sides_same k (s ∷ ss) [] fs fs' e1 e2 e3 h = absurd (let z : ⊥ = omega arith in z)
-sides_same k (s ∷ ss) (s' ∷ ss') [] fs' e1 e2 e3 h = absurd (let z : ⊥ = omega arith in z)
-sides_same k (s ∷ ss) (s' ∷ ss') (f ∷ fs) [] e1 e2 e3 h = absurd (let z : ⊥ = omega arith in z)
+sides_same k [] (s' ∷ ss') fs fs' e1 e2 e3 h = absurd (omega arith)
+sides_same k (s ∷ ss) [] fs fs' e1 e2 e3 h = absurd (omega arith)
+sides_same k (s ∷ ss) (s' ∷ ss') [] fs' e1 e2 e3 h = absurd (omega arith)
+sides_same k (s ∷ ss) (s' ∷ ss') (f ∷ fs) [] e1 e2 e3 h = absurd (omega arith)
 sides_same k (s ∷ ss) (s' ∷ ss') (f ∷ fs) (f' ∷ fs') e1 e2 e3 h =
     let one : cond (eqb s.reach k) (s.area * f.side) 0 ≡ cond (eqb s'.reach k) (s'.area * f'.side) 0 = h 0 (omega arith) in
     let rest = sides_same k ss ss' fs fs' (omega arith) (omega arith) (omega arith) (λ i l. h (suc i) (omega arith)) in
@@ -40,10 +40,10 @@ sides_same k (s ∷ ss) (s' ∷ ss') (f ∷ fs) (f' ∷ fs') e1 e2 e3 h =
 arriving_same : (k : ℕ) (rs rs' : List Reach) (fs fs' : List ReachFlow) → length fs ≡ length rs → length rs' ≡ length rs → length fs' ≡ length rs →
     ((i : ℕ) → i < length rs → cond (names (get_or rs i reach0).channel.next k) (get_or fs i flow0).outflow 0 ≡ cond (names (get_or rs' i reach0).channel.next k) (get_or fs' i flow0).outflow 0) → arriving k rs fs ≡ arriving k rs' fs'
 arriving_same k [] [] fs fs' e1 e2 e3 h = refl
-arriving_same k [] (r' ∷ rs') fs fs' e1 e2 e3 h = absurd (let z : ⊥ = omega arith in z)
-arriving_same k (r ∷ rs) [] fs fs' e1 e2 e3 h = absurd (let z : ⊥ = omega arith in z)
-arriving_same k (r ∷ rs) (r' ∷ rs') [] fs' e1 e2 e3 h = absurd (let z : ⊥ = omega arith in z)
-arriving_same k (r ∷ rs) (r' ∷ rs') (f ∷ fs) [] e1 e2 e3 h = absurd (let z : ⊥ = omega arith in z)
+arriving_same k [] (r' ∷ rs') fs fs' e1 e2 e3 h = absurd (omega arith)
+arriving_same k (r ∷ rs) [] fs fs' e1 e2 e3 h = absurd (omega arith)
+arriving_same k (r ∷ rs) (r' ∷ rs') [] fs' e1 e2 e3 h = absurd (omega arith)
+arriving_same k (r ∷ rs) (r' ∷ rs') (f ∷ fs) [] e1 e2 e3 h = absurd (omega arith)
 arriving_same k (r ∷ rs) (r' ∷ rs') (f ∷ fs) (f' ∷ fs') e1 e2 e3 h =
     let one : cond (names r.channel.next k) f.outflow 0 ≡ cond (names r'.channel.next k) f'.outflow 0 = h 0 (omega arith) in
     let rest = arriving_same k rs rs' fs fs' (omega arith) (omega arith) (omega arith) (λ i l. h (suc i) (omega arith)) in
@@ -92,10 +92,10 @@ module _ {S T : Type 0} {water : S → ℕ} {turns : S → ℕ → ℕ → Day �
       (d : DayOf water turns m index ss a b f) (d' : DayOf water' turns' m' index ss' a' b' f') (skies : Skies P ss a.reaches m m' index) where
     -- each site has its unit, in both
     inside : (i : ℕ) → i < length ss → i < length a.units
-    inside i h = omega (arith, h, s.many)
+    inside i h = omega arith
 
     inside' : (i : ℕ) → i < length ss → i < length a'.units
-    inside' i h = omega (arith, h, s'.many, pl.long)
+    inside' i h = omega arith
 
     -- a unit of P turns alike in both
     pub unit_like : (i : ℕ) (y : S) (z : T) → i < length ss → P (get_or ss i site0).reach → same (get_or b.units i y) (get_or b'.units i z) × (flows_of (get_or f.units i unit0) ≡ flows_of (get_or f'.units i unit0))
@@ -151,7 +151,7 @@ module _ {S T : Type 0} {water : S → ℕ} {turns : S → ℕ → ℕ → Day �
 
     -- each reach is there in both
     inside_reach : (k : ℕ) → k < length a.reaches → k < length a'.reaches
-    inside_reach k h = omega (arith, h, like.reaches_long)
+    inside_reach k h = omega arith
 
     -- a reach of P flows alike, where the earlier ones do
     flow_at : (k : ℕ) → k < length a.reaches → P k → ((l : ℕ) → l < k → l < length a.reaches → P l → get_or f.reaches l flow0 ≡ get_or f'.reaches l flow0) → get_or f.reaches k flow0 ≡ get_or f'.reaches k flow0
@@ -163,7 +163,7 @@ module _ {S T : Type 0} {water : S → ℕ} {turns : S → ℕ → ℕ → Day �
 
     -- and so do all below n
     flow_below : (n k : ℕ) → k < n → k < length a.reaches → P k → get_or f.reaches k flow0 ≡ get_or f'.reaches k flow0
-    flow_below zero k l h p = absurd (let z : ⊥ = omega arith in z)
+    flow_below zero k l h p = absurd (omega arith)
     flow_below (suc n) k l h p = flow_at k h p (λ i li hi pi. flow_below n i (omega arith) hi pi)
 
     -- every reach of P has the same flows
@@ -175,16 +175,16 @@ module _ {S T : Type 0} {water : S → ℕ} {turns : S → ℕ → ℕ → Day �
     like_more = record {
       reaches_long = d'.reaches_long ∙ like.reaches_long ∙ sym d.reaches_long;
       reach = λ k h p.
-          let h0 : k < length a.reaches = omega (arith, h, d.reaches_long) in
+          let h0 : k < length a.reaches = omega arith in
           let inflow = inflow_like k p (λ l _ hl q. flow_like l hl q) in
           let r = like.reach k h0 p in
           (d.reach k h0).after_is ∙ (λ j. reach_after (inflow j) (r j)) ∙ sym (d'.reach k (inside_reach k h0)).after_is;
       unit = λ i y z h _ _ p. (unit_like i y z h p).0;
       up = λ k l h e p.
-          let h0 : k < length a.reaches = omega (arith, h, d.reaches_long) in
+          let h0 : k < length a.reaches = omega arith in
           like.up k l h0 (sym (ap (λ (c : Channel). c.next) ((same_day d).channel k h0)) ∙ e) p;
       up' = λ k l h e p.
-          let h0 : k < length a.reaches = omega (arith, h, d.reaches_long) in
+          let h0 : k < length a.reaches = omega arith in
           like.up' k l h0 (sym (ap (λ (c : Channel). c.next) ((same_day d').channel k (inside_reach k h0))) ∙ e) p;
     }
 
@@ -193,8 +193,8 @@ module _ {S T : Type 0} {water : S → ℕ} {turns : S → ℕ → ℕ → Day �
     pub days_like : {t t' : List Moved} {b : State S} {b' : State T} → Days water turns m from ss a t b → Days water' turns' m' from ss' a' t' b' → length t' ≡ length t →
         ((d : ℕ) → d < length t → Skies P ss a.reaches m m' (from + d)) → Like same P ss b b' × ((k : ℕ) → k < length a.reaches → P k → (reach_over k t).outflow ≡ (reach_over k t').outflow)
     days_like none none e w = (like, λ k h p. refl)
-    days_like none (more x y) e w = absurd (let z : ⊥ = omega arith in z)
-    days_like (more x y) none e w = absurd (let z : ⊥ = omega arith in z)
+    days_like none (more x y) e w = absurd (omega arith)
+    days_like (more x y) none e w = absurd (omega arith)
     days_like (more {t = t} {c = c} {b = b} {f = f} x d) (more {t = t'} {c = c'} {b = b'} {f = f'} x' d') e w =
         let rest = days_like x x' (omega arith) (λ k l. w k (omega arith)) in
         let kept = same_days x in
@@ -206,13 +206,13 @@ module _ {S T : Type 0} {water : S → ℕ} {turns : S → ℕ → ℕ → Day �
         let sky : Skies P ss c.reaches m m' (from + length t) = record {
           sites = w0.sites;
           reaches = λ k h p.
-              let h0 : k < length a.reaches = omega (arith, h, kept.reaches) in
+              let h0 : k < length a.reaches = omega arith in
               subst (λ (q : Channel). asked m q.station (from + length t) ≡ asked m' q.station (from + length t)) (sym (kept.channel k h0)) (w0.reaches k h0 p);
         } in (
           like_more rest.0 sc sc' d d2 sky,
           λ k h p.
               let old = rest.1 k h p in
-              let new = ap (λ (q : ReachFlow). q.outflow) (flow_like rest.0 sc sc' d d2 sky k (omega (arith, h, kept.reaches)) p) in
+              let new = ap (λ (q : ReachFlow). q.outflow) (flow_like rest.0 sc sc' d d2 sky k (omega arith) p) in
               λ j. old j + new j,
         )
 
@@ -233,7 +233,7 @@ like_set {S} {T} {same} {P} {ss} {a} {a'} k x x' like so =
           like.up i l h0 (sym (ap (λ (c : Channel). c.next) (set_channel a.reaches k x i h0)) ∙ e) p;
       up' = λ i l h e p.
           let h0 : i < length a.reaches = (simp length-set at h) in
-          like.up' i l h0 (sym (ap (λ (c : Channel). c.next) (set_channel a'.reaches k x' i (omega (arith, h0, like.reaches_long)))) ∙ e) p;
+          like.up' i l h0 (sym (ap (λ (c : Channel). c.next) (set_channel a'.reaches k x' i (omega arith))) ∙ e) p;
     }
   where
     r : Reach
@@ -246,8 +246,8 @@ like_set {S} {T} {same} {P} {ss} {a} {a'} k x x' like so =
     go i l p =
         elim (cases_eq i k) [
           | inl w ↦
-              let h : k < length a.reaches = omega (arith, l, w) in
-              let h' : k < length a'.reaches = omega (arith, h, like.reaches_long) in
+              let h : k < length a.reaches = omega arith in
+              let h' : k < length a'.reaches = omega arith in
               let one = like.reach k h (subst P w p) in
               let two = so (ap (λ (q : Reach). q.stored) one) in
               let equal : r ≡ r' = λ j. record { channel = (one j).channel; stored = two j } in

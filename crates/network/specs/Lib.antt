@@ -1,3 +1,4 @@
+pub mod Flows
 pub mod Making
 pub mod Nexts
 pub mod Records

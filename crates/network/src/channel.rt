@@ -4,7 +4,7 @@ ghost use Rattle.network.specs.Nexts.{is_first};
 
 use fixed::share::Share;
 
-#[derive(Clone, Copy)]
+#[derive(Clone, Copy, Debug, PartialEq, Eq)]
 pub struct Channel {
     // The next reach downstream, if there is one.
     pub next: Option<u8>,

@@ -6,7 +6,7 @@ use fixed::limits::{natural, volume};
 use fixed::share::Share;
 use refusals::reach::ReachSetting;
 
-#[derive(Clone, Copy)]
+#[derive(Clone, Copy, Debug, PartialEq, Eq)]
 pub struct Reach {
     pub channel: Channel,
     // Stored water, in millilitres.
@@ -20,15 +20,11 @@ const MOST: i64 = 1_000_000_000_000_000;
 fn downstream(next: Option<i64>) -> Result<Option<u8>, ReachSetting>
     ensures { NextMade next result }
 {
-    match next {
-        None => Ok(None),
-        Some(value) => {
-            match natural(value, 1, 255) {
-                Some(reach) => Ok(Some(reach as u8)),
-                None => Err(ReachSetting::Downstream),
-            }
-        }
-    }
+    let Some(value) = next else {
+        return Ok(None);
+    };
+    let reach = natural(value, 1, 255).ok_or(ReachSetting::Downstream)?;
+    Ok(Some(reach as u8))
 }
 
 impl Reach {
@@ -44,28 +40,13 @@ impl Reach {
     ) -> Result<Reach, ReachSetting>
         ensures { ReachMade next station stored outflow loss surface evaporation result }
     {
-        let next = match downstream(next) {
-            Ok(next) => next,
-            Err(setting) => return Err(setting),
-        };
-        let Some(station) = natural(station, 0, 63) else {
-            return Err(ReachSetting::ReachStation);
-        };
-        let Some(stored) = volume(stored, MOST) else {
-            return Err(ReachSetting::StoredWater);
-        };
-        let Some(outflow) = Share::new(outflow) else {
-            return Err(ReachSetting::StorageCoefficient);
-        };
-        let Some(loss) = volume(loss, MOST) else {
-            return Err(ReachSetting::TransmissionLoss);
-        };
-        let Some(surface) = natural(surface, 0, 100_000_000) else {
-            return Err(ReachSetting::WaterSurface);
-        };
-        let Some(evaporation) = Share::new(evaporation) else {
-            return Err(ReachSetting::EvaporationShare);
-        };
+        let next = downstream(next)?;
+        let station = natural(station, 0, 63).ok_or(ReachSetting::ReachStation)?;
+        let stored = volume(stored, MOST).ok_or(ReachSetting::StoredWater)?;
+        let outflow = Share::new(outflow).ok_or(ReachSetting::StorageCoefficient)?;
+        let loss = volume(loss, MOST).ok_or(ReachSetting::TransmissionLoss)?;
+        let surface = natural(surface, 0, 100_000_000).ok_or(ReachSetting::WaterSurface)?;
+        let evaporation = Share::new(evaporation).ok_or(ReachSetting::EvaporationShare)?;
         let channel = Channel {
             next,
             station: station as u8,

@@ -1,7 +1,7 @@
 // A site: where a unit lies, and how much of the basin it covers.
 ghost use Rattle.std.specs.Prelude.{◌≤◌};
 
-#[derive(Clone, Copy)]
+#[derive(Clone, Copy, Debug, PartialEq, Eq)]
 pub struct Site {
     // In square metres.
     pub area: u32,

@@ -10,15 +10,9 @@ impl Site {
     pub fn new(area: i64, reach: i64, station: i64) -> Result<Site, SiteSetting>
         ensures { SiteMade area reach station result }
     {
-        let Some(area) = natural(area, 1, 1_000_000_000) else {
-            return Err(SiteSetting::Area);
-        };
-        let Some(reach) = natural(reach, 0, 255) else {
-            return Err(SiteSetting::SiteReach);
-        };
-        let Some(station) = natural(station, 0, 63) else {
-            return Err(SiteSetting::SiteStation);
-        };
+        let area = natural(area, 1, 1_000_000_000).ok_or(SiteSetting::Area)?;
+        let reach = natural(reach, 0, 255).ok_or(SiteSetting::SiteReach)?;
+        let station = natural(station, 0, 63).ok_or(SiteSetting::SiteStation)?;
         Ok(Site {
             area,
             reach: reach as u8,

@@ -1,6 +1,6 @@
 #![tactic(auto)]
 // Runs a weather table over bare rock and prints the nine lines of its log.
-use anyhow::anyhow;
+use anyhow::ensure;
 use network::flows::{NO_REACH_FLOW, NO_UNIT_FLOW};
 use std::io::{Read, Write};
 use std::{env, fs};
@@ -10,11 +10,8 @@ use trial::table::run_table;
 // The bytes of the file named as the one argument, or of standard input where there is none.
 fn table(rt: &HostRuntime) -> anyhow::Result<Vec<u8>> {
     let mut args = env::args(rt)?;
-    args.next();
-    let file = args.next();
-    if args.next().is_some() {
-        return Err(anyhow!("nine takes one file at most"));
-    }
+    let file = args.nth(1);
+    ensure!(args.next().is_none(), "nine takes one file at most");
     match file {
         Some(path) => Ok(fs::read(rt, path.as_str())?),
         None => {
@@ -35,10 +32,9 @@ fn run(rt: &HostRuntime) -> anyhow::Result<()> {
         &mut [NO_REACH_FLOW],
     );
     let mut log = vec![in rt.alloc(); 0; figures.length()]?;
-    match figures.write(log.as_mut_slice()) {
-        Ok(_) => rt.stdout().write_all(&log)?,
-        Err(_) => unreachable(),
-    }
+    // Not by `Display`: the contract of `write` says that it succeeds and what the buffer then holds.
+    figures.write(&mut log).unwrap();
+    rt.stdout().write_all(&log)?;
     Ok(())
 }
 

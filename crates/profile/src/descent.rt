@@ -1,5 +1,5 @@
 // What comes down to a layer: seepage and the demand left, with what the layers above it gave sideways and to the air.
-#[derive(Clone, Copy)]
+#[derive(Clone, Copy, Debug, PartialEq, Eq)]
 pub struct Descent {
     pub seepage: u32,
     pub demand: u32,

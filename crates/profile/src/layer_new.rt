@@ -18,25 +18,17 @@ impl Layer {
     ) -> Result<Layer, LayerSetting>
         ensures { LayerMade wilting capacity water percolation lateral demand result }
     {
-        let Some(wilting) = natural(wilting, 0, 999_999) else {
-            return Err(LayerSetting::WiltingPoint);
-        };
-        let Some(capacity) = natural(capacity, wilting + 1, 1_000_000) else {
-            return Err(LayerSetting::FieldCapacity);
-        };
-        let Some(water) = natural(water, wilting, 2_000_000) else {
-            return Err(LayerSetting::SoilWater);
-        };
-        let Some(percolation) = Share::new(percolation) else {
-            return Err(LayerSetting::Percolation);
-        };
+        let wilting = natural(wilting, 0, 999_999).ok_or(LayerSetting::WiltingPoint)?;
+        let capacity = natural(capacity, wilting + 1, 1_000_000).ok_or(
+            LayerSetting::FieldCapacity,
+        )?;
+        let water = natural(water, wilting, 2_000_000).ok_or(LayerSetting::SoilWater)?;
+        let percolation = Share::new(percolation).ok_or(LayerSetting::Percolation)?;
         // What the percolation share leaves of a whole.
-        let Some(lateral) = natural(lateral, 0, WHOLE - percolation.millionths) else {
-            return Err(LayerSetting::Lateral);
-        };
-        let Some(demand) = Share::new(demand) else {
-            return Err(LayerSetting::DemandShare);
-        };
+        let lateral = natural(lateral, 0, WHOLE - percolation.millionths).ok_or(
+            LayerSetting::Lateral,
+        )?;
+        let demand = Share::new(demand).ok_or(LayerSetting::DemandShare)?;
         Ok(Layer {
             wilting,
             capacity,

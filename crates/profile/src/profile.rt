@@ -6,7 +6,7 @@ use crate::layer::Layer;
 use crate::soil::Soil;
 use refusals::profile::ProfileFull;
 
-#[derive(Clone, Copy)]
+#[derive(Clone, Copy, Debug, PartialEq, Eq)]
 pub struct Profile<L> {
     pub soil: Soil,
     pub lower: L,

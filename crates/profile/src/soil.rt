@@ -3,14 +3,14 @@ ghost use Rattle.std.specs.Prelude.{◌≤◌};
 
 use crate::layer::Layer;
 
-// A row for each layer that there may be.
-#[derive(Clone, Copy)]
+// A row for each layer that there may be. A type of its own: an array beside a ghost field is not lent out to be changed.
+#[derive(Clone, Copy, Debug, PartialEq, Eq)]
 pub struct Layers {
     pub rows: [Layer; 10],
 }
 
-// The first `count` rows are the soil's layers; what lies past them means nothing.
-#[derive(Clone, Copy)]
+// The first `count` rows are the soil's layers; what lies past them means nothing. No vector: a store is copied whole.
+#[derive(Clone, Copy, Debug, PartialEq, Eq)]
 pub struct Soil {
     pub layers: Layers,
     pub count: usize,

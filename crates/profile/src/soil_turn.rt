@@ -1,6 +1,6 @@
 // The day of the layers of soil, and what they hold.
-ghost use Rattle.std.specs.Prelude.{◌≡◌, ◌+◌, ◌<◌, ◌≤◌, [], ◌∷◌, ◌++◌, take, slice_set};
-ghost use Rattle.profile.specs.Soils.{RowTurn, SoilTurn, Added, empty_soil, soil_water, soil_root, layers_water, descended};
+ghost use Rattle.std.specs.Prelude.{◌≡◌, ◌+◌, ◌≤◌, length, take, drop};
+ghost use Rattle.profile.specs.Soils.{SoilTurn, Added, empty_soil, soil_water, soil_root, layers_of, layers_water, descended, LayersTurn, through_all};
 
 use crate::descent::Descent;
 use crate::layer::Layer;
@@ -9,22 +9,21 @@ use fixed::share::Share;
 use refusals::profile::ProfileFull;
 
 impl Layers {
-    // One day of the layer in row i, with what comes down to it.
-    fn turn_row(&mut self, i: usize, above: Descent) -> Descent
-        requires there { i < 10 }
-        requires room { layers_water (take (i + 1) self.old.rows) + above.seepage + above.side + above.vapour ≤ 100000000 }
-        ensures { RowTurn self.old.rows i above self.new.rows result }
+    // One day of the first layers, from the top down, with what comes down to them; what comes out below.
+    fn turn(&mut self, count: usize, above: Descent) -> Descent
+        requires there { count ≤ 10 }
+        requires room { layers_water (take count self.old.rows) + above.seepage + above.side + above.vapour ≤ 100000000 }
+        ensures turned { LayersTurn (take count self.old.rows) above (take count self.new.rows) }
+        ensures rest { drop count self.new.rows ≡ drop count self.old.rows }
+        ensures passed { result ≡ through_all (take count self.old.rows) above }
+        ensures balance { layers_water (take count self.new.rows) + result.seepage + result.side + result.vapour ≡ layers_water (take count self.old.rows) + above.seepage + above.side + above.vapour }
+        ensures drunk { result.vapour + result.demand ≤ above.vapour + above.demand }
     {
-        self.rows[i].turn(above)
-    }
-
-    // Row i is this layer from now on.
-    fn put_row(&mut self, i: usize, layer: Layer)
-        requires { i < 10 }
-        ensures value { self.new.rows ≡ slice_set self.old.rows i layer }
-        ensures front { take (i + 1) self.new.rows ≡ take i self.old.rows ++ (layer ∷ []) }
-    {
-        self.rows[i] = layer;
+        let mut descent = above;
+        for layer in &mut self.rows[..count] {
+            descent = layer.turn(descent);
+        }
+        descent
     }
 }
 
@@ -55,9 +54,17 @@ impl Soil {
         if self.count >= 10 {
             return Err(ProfileFull);
         }
-        self.layers.put_row(self.count, layer);
+        self.layers.rows[self.count] = layer;
         self.count += 1;
         Ok(())
+    }
+
+    // Its layers.
+    fn layers(&self) -> &[Layer]
+        ensures value { result.now ≡ layers_of self.now }
+        ensures few { length result.now ≤ 10 }
+    {
+        &self.layers.rows[..self.count]
     }
 
     // The water of all layers.
@@ -65,11 +72,10 @@ impl Soil {
         ensures value { result ≡ soil_water self.now }
         ensures bound { result ≤ 1000000000 }
     {
-        let mut sum = 0;
-        for layer in &self.layers.rows[0..self.count] {
-            sum += layer.water as u64;
-        }
-        sum
+        self.layers()
+            .iter()
+            .map(|layer| u64::from(layer.water))
+            .sum()
     }
 
     // The water above the wilting points.
@@ -77,11 +83,10 @@ impl Soil {
         ensures value { result ≡ soil_root self.now }
         ensures bound { result ≤ 1000000000 }
     {
-        let mut sum = 0;
-        for layer in &self.layers.rows[0..self.count] {
-            sum += (layer.water - layer.wilting) as u64;
-        }
-        sum
+        self.layers()
+            .iter()
+            .map(|layer| u64::from(layer.water - layer.wilting))
+            .sum()
     }
 
     // One day from the top down; what comes out below.
@@ -92,15 +97,12 @@ impl Soil {
         ensures balance { soil_water self.new + result.seepage + result.side + result.vapour ≡ soil_water self.old + inflow }
         ensures drunk { result.vapour + result.demand ≤ demand }
     {
-        let mut descent = Descent {
+        let above = Descent {
             seepage: inflow,
             demand,
             side: 0,
             vapour: 0,
         };
-        for i in 0..self.count {
-            descent = self.layers.turn_row(i, descent);
-        }
-        descent
+        self.layers.turn(self.count, above)
     }
 }

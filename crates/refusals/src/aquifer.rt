@@ -4,9 +4,9 @@ ghost use Rattle.refusals.specs.Refusals.{aquifer_refusal};
 use crate::refused::Refused;
 use crate::values::Values;
 
-#[derive(Clone, Copy)]
+#[derive(Clone, Copy, Debug, PartialEq, Eq)]
 pub enum AquiferSetting {
-    GroundWater,
+    GroundWater = 1,
     DeepShare,
     FlowThreshold,
     FlowShare,
@@ -20,11 +20,6 @@ impl Refused for AquiferSetting {
     }
 
     fn values(&self) -> Values {
-        Values::One(match self {
-            AquiferSetting::GroundWater => 1,
-            AquiferSetting::DeepShare => 2,
-            AquiferSetting::FlowThreshold => 3,
-            AquiferSetting::FlowShare => 4,
-        })
+        Values::One(*self as u64)
     }
 }

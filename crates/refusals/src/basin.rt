@@ -6,7 +6,7 @@ use crate::refused::Refused;
 use crate::values::Values;
 use crate::weather::WeatherFault;
 
-#[derive(Clone, Copy)]
+#[derive(Clone, Copy, Debug, PartialEq, Eq)]
 pub enum BasinFault {
     // The tables' lengths disagree or are outside.
     Lengths,
@@ -33,6 +33,7 @@ pub enum BasinFault {
 impl Refused for BasinFault {
     ghost refusal = { basin_refusal };
 
+    // A variant that carries values has no discriminant to cast, so its number stands here.
     fn number(&self) -> u32 {
         match self {
             BasinFault::Lengths => 51,
@@ -50,16 +51,14 @@ impl Refused for BasinFault {
 
     fn values(&self) -> Values {
         match self {
-            BasinFault::Lengths => Values::One(0),
-            BasinFault::SiteReach(site) => Values::One(*site),
-            BasinFault::NextReach(reach) => Values::One(*reach),
-            BasinFault::Areas => Values::One(0),
-            BasinFault::NoReach(reach) => Values::One(*reach),
-            BasinFault::Amount => Values::One(0),
+            BasinFault::Lengths | BasinFault::Areas | BasinFault::Amount | BasinFault::BasinFull =>
+                Values::One(0),
+            BasinFault::SiteReach(place)
+            | BasinFault::NextReach(place)
+            | BasinFault::NoReach(place)
+            | BasinFault::UnitFull(place)
+            | BasinFault::Short(place) => Values::One(*place),
             BasinFault::Weather(place, fault) => whole(*place, fault),
-            BasinFault::UnitFull(site) => Values::One(*site),
-            BasinFault::BasinFull => Values::One(0),
-            BasinFault::Short(reach) => Values::One(*reach),
         }
     }
 }
@@ -70,9 +69,9 @@ fn whole(place: u64, fault: &WeatherFault) -> Values
 {
     let number = fault.number() as u64;
     match fault {
-        WeatherFault::NoStation(station, index) => Values::Four(place, number, *station, *index),
-        WeatherFault::NoIndex(station, index) => Values::Four(place, number, *station, *index),
-        WeatherFault::Missing(station, index) => Values::Four(place, number, *station, *index),
-        WeatherFault::Outside(station, index) => Values::Four(place, number, *station, *index),
+        WeatherFault::NoStation(station, index)
+        | WeatherFault::NoIndex(station, index)
+        | WeatherFault::Missing(station, index)
+        | WeatherFault::Outside(station, index) => Values::Four(place, number, *station, *index),
     }
 }

@@ -4,9 +4,9 @@ ghost use Rattle.refusals.specs.Refusals.{day_refusal};
 use crate::refused::Refused;
 use crate::values::Values;
 
-#[derive(Clone, Copy)]
+#[derive(Clone, Copy, Debug, PartialEq, Eq)]
 pub enum DayFault {
-    DayOfYear,
+    DayOfYear = 1,
     Rain,
     Highest,
     Lowest,
@@ -21,12 +21,6 @@ impl Refused for DayFault {
     }
 
     fn values(&self) -> Values {
-        Values::One(match self {
-            DayFault::DayOfYear => 1,
-            DayFault::Rain => 2,
-            DayFault::Highest => 3,
-            DayFault::Lowest => 4,
-            DayFault::Demand => 5,
-        })
+        Values::One(*self as u64)
     }
 }

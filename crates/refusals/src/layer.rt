@@ -4,9 +4,9 @@ ghost use Rattle.refusals.specs.Refusals.{layer_refusal};
 use crate::refused::Refused;
 use crate::values::Values;
 
-#[derive(Clone, Copy)]
+#[derive(Clone, Copy, Debug, PartialEq, Eq)]
 pub enum LayerSetting {
-    WiltingPoint,
+    WiltingPoint = 1,
     FieldCapacity,
     SoilWater,
     Percolation,
@@ -22,13 +22,6 @@ impl Refused for LayerSetting {
     }
 
     fn values(&self) -> Values {
-        Values::One(match self {
-            LayerSetting::WiltingPoint => 1,
-            LayerSetting::FieldCapacity => 2,
-            LayerSetting::SoilWater => 3,
-            LayerSetting::Percolation => 4,
-            LayerSetting::Lateral => 5,
-            LayerSetting::DemandShare => 6,
-        })
+        Values::One(*self as u64)
     }
 }

@@ -4,7 +4,7 @@ ghost use Rattle.refusals.specs.Refusals.{log_refusal};
 use crate::refused::Refused;
 use crate::values::Values;
 
-#[derive(Clone, Copy)]
+#[derive(Clone, Copy, Debug, PartialEq, Eq)]
 pub struct BufferShort {
     // The length that the log needs.
     pub needed: u64,

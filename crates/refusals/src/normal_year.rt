@@ -4,9 +4,9 @@ ghost use Rattle.refusals.specs.Refusals.{normal_year_refusal};
 use crate::refused::Refused;
 use crate::values::Values;
 
-#[derive(Clone, Copy)]
+#[derive(Clone, Copy, Debug, PartialEq, Eq)]
 pub enum NormalYearSetting {
-    Stations,
+    Stations = 1,
     FirstDay,
 }
 
@@ -18,9 +18,6 @@ impl Refused for NormalYearSetting {
     }
 
     fn values(&self) -> Values {
-        Values::One(match self {
-            NormalYearSetting::Stations => 1,
-            NormalYearSetting::FirstDay => 2,
-        })
+        Values::One(*self as u64)
     }
 }

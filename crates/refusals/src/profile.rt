@@ -4,7 +4,7 @@ ghost use Rattle.refusals.specs.Refusals.{profile_refusal};
 use crate::refused::Refused;
 use crate::values::Values;
 
-#[derive(Clone, Copy)]
+#[derive(Clone, Copy, Debug, PartialEq, Eq)]
 pub struct ProfileFull;
 
 impl Refused for ProfileFull {

@@ -4,9 +4,9 @@ ghost use Rattle.refusals.specs.Refusals.{reach_refusal};
 use crate::refused::Refused;
 use crate::values::Values;
 
-#[derive(Clone, Copy)]
+#[derive(Clone, Copy, Debug, PartialEq, Eq)]
 pub enum ReachSetting {
-    Downstream,
+    Downstream = 1,
     ReachStation,
     StoredWater,
     StorageCoefficient,
@@ -23,14 +23,6 @@ impl Refused for ReachSetting {
     }
 
     fn values(&self) -> Values {
-        Values::One(match self {
-            ReachSetting::Downstream => 1,
-            ReachSetting::ReachStation => 2,
-            ReachSetting::StoredWater => 3,
-            ReachSetting::StorageCoefficient => 4,
-            ReachSetting::TransmissionLoss => 5,
-            ReachSetting::WaterSurface => 6,
-            ReachSetting::EvaporationShare => 7,
-        })
+        Values::One(*self as u64)
     }
 }

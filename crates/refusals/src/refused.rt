@@ -4,6 +4,7 @@ ghost use Rattle.refusals.specs.Refusals.{Refusal, listed};
 
 use crate::values::Values;
 
+// Settings share no trait below this one: it would ask each kind for its meaning and its place too.
 pub trait Refused {
     ghost refusal: { Self → Refusal };
 

@@ -4,9 +4,9 @@ ghost use Rattle.refusals.specs.Refusals.{site_refusal};
 use crate::refused::Refused;
 use crate::values::Values;
 
-#[derive(Clone, Copy)]
+#[derive(Clone, Copy, Debug, PartialEq, Eq)]
 pub enum SiteSetting {
-    Area,
+    Area = 1,
     SiteReach,
     SiteStation,
 }
@@ -19,10 +19,6 @@ impl Refused for SiteSetting {
     }
 
     fn values(&self) -> Values {
-        Values::One(match self {
-            SiteSetting::Area => 1,
-            SiteSetting::SiteReach => 2,
-            SiteSetting::SiteStation => 3,
-        })
+        Values::One(*self as u64)
     }
 }

@@ -4,9 +4,9 @@ ghost use Rattle.refusals.specs.Refusals.{snowpack_refusal};
 use crate::refused::Refused;
 use crate::values::Values;
 
-#[derive(Clone, Copy)]
+#[derive(Clone, Copy, Debug, PartialEq, Eq)]
 pub enum SnowpackSetting {
-    SnowWater,
+    SnowWater = 1,
     PackTemperature,
     SnowfallTemperature,
     MeltTemperature,
@@ -22,13 +22,6 @@ impl Refused for SnowpackSetting {
     }
 
     fn values(&self) -> Values {
-        Values::One(match self {
-            SnowpackSetting::SnowWater => 1,
-            SnowpackSetting::PackTemperature => 2,
-            SnowpackSetting::SnowfallTemperature => 3,
-            SnowpackSetting::MeltTemperature => 4,
-            SnowpackSetting::Lag => 5,
-            SnowpackSetting::MeltFactor => 6,
-        })
+        Values::One(*self as u64)
     }
 }

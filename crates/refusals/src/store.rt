@@ -4,7 +4,7 @@ ghost use Rattle.refusals.specs.Refusals.{store_refusal};
 use crate::refused::Refused;
 use crate::values::Values;
 
-#[derive(Clone, Copy)]
+#[derive(Clone, Copy, Debug, PartialEq, Eq)]
 pub struct Overfull;
 
 impl Refused for Overfull {

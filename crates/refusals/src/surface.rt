@@ -4,9 +4,9 @@ ghost use Rattle.refusals.specs.Refusals.{surface_refusal};
 use crate::refused::Refused;
 use crate::values::Values;
 
-#[derive(Clone, Copy)]
+#[derive(Clone, Copy, Debug, PartialEq, Eq)]
 pub enum SurfaceSetting {
-    Retention,
+    Retention = 1,
     FullWater,
     FirstShape,
     SecondShape,
@@ -20,11 +20,6 @@ impl Refused for SurfaceSetting {
     }
 
     fn values(&self) -> Values {
-        Values::One(match self {
-            SurfaceSetting::Retention => 1,
-            SurfaceSetting::FullWater => 2,
-            SurfaceSetting::FirstShape => 3,
-            SurfaceSetting::SecondShape => 4,
-        })
+        Values::One(*self as u64)
     }
 }

@@ -5,15 +5,15 @@ use crate::refused::Refused;
 use crate::values::Values;
 
 // A count of the header, in the header's order.
-#[derive(Clone, Copy)]
+#[derive(Clone, Copy, Debug, PartialEq, Eq)]
 pub enum HeaderCount {
-    StationCount,
+    StationCount = 1,
     DayCount,
     FirstYear,
     FirstDate,
 }
 
-#[derive(Clone, Copy)]
+#[derive(Clone, Copy, Debug, PartialEq, Eq)]
 pub enum TableFault {
     // Under twenty bytes, or the length field differs: how many bytes there are.
     Length(u64),
@@ -25,6 +25,7 @@ pub enum TableFault {
 impl Refused for TableFault {
     ghost refusal = { table_refusal };
 
+    // A variant that carries values has no discriminant to cast, so its number stands here.
     fn number(&self) -> u32 {
         match self {
             TableFault::Length(_) => 21,
@@ -36,10 +37,7 @@ impl Refused for TableFault {
     fn values(&self) -> Values {
         Values::One(match self {
             TableFault::Length(bytes) => *bytes,
-            TableFault::Header(HeaderCount::StationCount) => 1,
-            TableFault::Header(HeaderCount::DayCount) => 2,
-            TableFault::Header(HeaderCount::FirstYear) => 3,
-            TableFault::Header(HeaderCount::FirstDate) => 4,
+            TableFault::Header(count) => *count as u64,
             TableFault::Size => 0,
         })
     }

@@ -1,5 +1,5 @@
 // The values that come with a refusal's number.
-#[derive(Clone, Copy)]
+#[derive(Clone, Copy, Debug, PartialEq, Eq)]
 pub enum Values {
     One(u64),
     Two(u64, u64),

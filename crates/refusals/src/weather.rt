@@ -4,7 +4,7 @@ ghost use Rattle.refusals.specs.Refusals.{weather_refusal};
 use crate::refused::Refused;
 use crate::values::Values;
 
-#[derive(Clone, Copy)]
+#[derive(Clone, Copy, Debug, PartialEq, Eq)]
 pub enum WeatherFault {
     NoStation(u64, u64),
     NoIndex(u64, u64),
@@ -16,6 +16,7 @@ pub enum WeatherFault {
 impl Refused for WeatherFault {
     ghost refusal = { weather_refusal };
 
+    // A variant that carries values has no discriminant to cast, so its number stands here.
     fn number(&self) -> u32 {
         match self {
             WeatherFault::NoStation(_, _) => 31,
@@ -27,10 +28,10 @@ impl Refused for WeatherFault {
 
     fn values(&self) -> Values {
         match self {
-            WeatherFault::NoStation(station, index) => Values::Two(*station, *index),
-            WeatherFault::NoIndex(station, index) => Values::Two(*station, *index),
-            WeatherFault::Missing(station, index) => Values::Two(*station, *index),
-            WeatherFault::Outside(station, index) => Values::Two(*station, *index),
+            WeatherFault::NoStation(station, index)
+            | WeatherFault::NoIndex(station, index)
+            | WeatherFault::Missing(station, index)
+            | WeatherFault::Outside(station, index) => Values::Two(*station, *index),
         }
     }
 }

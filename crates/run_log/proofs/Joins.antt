@@ -1,22 +1,21 @@
 -- Lines one after another, and how long they are. Assumes nothing.
-use Rattle.std.proofs.Common.{◌≡◌, ℕ, zero, suc, ◌+◌, ◌*◌, ◌<◌, ◌≤◌, List, [], ◌∷◌, ◌++◌, map, length, get_or, take, drop, sym, ap, ◌∙◌, subst, zero-add, arith, lit≤, length-append, Bor}
-use Rattle.std.specs.List.{flat_map, AllByRecursion as All}
+use Rattle.std.proofs.Common.{◌≡◌, ℕ, ◌+◌, ◌*◌, ◌<◌, ◌≤◌, List, [], ◌∷◌, ◌++◌, map, length, decimal, get_or, take, drop, sym, ap, ◌∙◌, subst, zero-add, arith, lit≤, length-append, Bor}
+use Rattle.std.specs.List.{flat_map, sum_by, AllByRecursion as All}
 use Rattle.std.proofs.lemmas.List.{take_more, take_all, flat_map_more, length-map, get_or-map}
+use Rattle.std.proofs.lemmas.List.Concat.{length-flat_map}
+use Rattle.std.proofs.lemmas.List.Folds.{flat_map-map, length-flat_map-take}
 use Rattle.run_log.specs.declared.figures.LogFigures.{LogFigures}
 use Rattle.run_log.specs.Log.{line_bytes, log_lines, log_bytes, written}
 use Rattle.run_log.proofs.Overwrites.{written_next}
 use Rattle.run_log.proofs.Decimals.{decimal_short}
-use Rattle.run_log.proofs.Parts.{length-line}
+
+-- a line has its name, its digits and two bytes more
+pub length-line : (l : List ℕ × ℕ) → length (line_bytes l) ≡ length l.0 + length (decimal l.1) + 2
+length-line l = omega (arith, length-append l.0 (32 ∷ (decimal l.1 ++ (10 ∷ []))), length-append (decimal l.1) (10 ∷ []))
 
 -- one line more
 lines_more : (ls : List (List ℕ × ℕ)) (i : ℕ) (l : List ℕ × ℕ) → i < length ls → flat_map line_bytes (take (i + 1) ls) ≡ flat_map line_bytes (take i ls) ++ line_bytes (get_or ls i l)
 lines_more ls i l h = ap (flat_map line_bytes) (take_more ls i l h) ∙ sym (flat_map_more line_bytes [] (take i ls) (get_or ls i l))
-
--- the first lines are no longer than all
-lines_within : (i : ℕ) (ls : List (List ℕ × ℕ)) → length (flat_map line_bytes (take i ls)) ≤ length (flat_map line_bytes ls)
-lines_within zero ls = omega arith
-lines_within (suc i) [] = omega arith
-lines_within (suc i) (l ∷ ls) = omega (arith, length-append (line_bytes l) (flat_map line_bytes (take i ls)), length-append (line_bytes l) (flat_map line_bytes ls), lines_within i ls)
 
 -- lines with short names are short
 lines_short : (ls : List (List ℕ × ℕ)) → All (λ l. length l.0 ≤ 8) ls → length (flat_map line_bytes ls) ≤ 74 * length ls
@@ -55,16 +54,24 @@ module _ (f : LogFigures) (items : List (Bor (List ℕ) × ℕ)) (e : map told i
   -- the next line has room where the log has
   pub next_room : (i : ℕ) → i < 9 → length (first_lines f i) + length (line_bytes (told (get_or items i untold))) ≤ length (log_bytes f)
   unfolding log_bytes
-  next_room i h = subst (λ (n : ℕ). n ≤ length (flat_map line_bytes (log_lines f))) (next_length i h) (lines_within (i + 1) (log_lines f))
+  next_room i h =
+      let many : i < length items = omega (arith, length-map items told, ap length e) in
+      subst (λ (ls : List (List ℕ × ℕ)). length (flat_map line_bytes (take i ls)) + length (line_bytes (told (get_or items i untold))) ≤ length (flat_map line_bytes ls)) e
+      (subst (λ (l : List ℕ × ℕ). length (flat_map line_bytes (take i (map told items))) + length (line_bytes l) ≤ length (flat_map line_bytes (map told items))) (get_or-map told items i untold (told untold) many)
+      (length-flat_map-take line_bytes (map told items) i (told untold) (omega (arith, length-map items told))))
+
+  -- their lengths make that of the log
+  pub lengths_sum : sum_by (λ l. length (line_bytes (told l))) items ≡ length (log_bytes f)
+  unfolding log_bytes
+  lengths_sum =
+      sym (length-flat_map (λ (l : Bor (List ℕ) × ℕ). line_bytes (told l)) items)
+      ∙ ap length (sym (flat_map-map line_bytes told items))
+      ∙ ap (λ (ls : List (List ℕ × ℕ)). length (flat_map line_bytes ls)) e
 
   -- the next line written after the first ones
   pub next_written : (xs ys : List ℕ) (at i : ℕ) → i < 9 → at ≡ length (first_lines f i) → ys ≡ written (first_lines f i) 0 xs → written (line_bytes (told (get_or items i untold))) at ys ≡ written (first_lines f (i + 1)) 0 xs
   next_written xs ys at i h long first =
-      let line : List ℕ = line_bytes (told (get_or items i untold)) in
-      let here : at ≡ 0 + length (first_lines f i) = omega arith in
-      ap (λ (n : ℕ). written line n ys) here
-      ∙ ap (written line (0 + length (first_lines f i))) first
-      ∙ written_next (first_lines f i) line xs 0 (omega arith)
+      written_next (first_lines f i) (line_bytes (told (get_or items i untold))) xs ys 0 at (omega arith) first (omega arith)
       ∙ ap (λ (l : List ℕ). written l 0 xs) (sym (next_line i h))
 
 -- nine lines are all

@@ -1,4 +1,3 @@
 pub mod Overwrites
 pub mod Decimals
-pub mod Parts
 pub mod Joins

@@ -14,17 +14,14 @@ use refusals::table::TableFault;
 fn number_of(stop: Option<BasinFault>) -> u32
     ensures { result ≡ stop_number stop }
 {
-    match stop {
-        None => 0,
-        Some(fault) => fault.number(),
-    }
+    stop.map_or(0, |fault| fault.number())
 }
 
-impl LogFigures {
-    // What a run's answer tells.
-    pub fn of(answer: &Answer) -> LogFigures
-        ensures { result ≡ told_of answer.now }
-    {
+// What a run's answer tells.
+impl From<Answer> for LogFigures {
+    ghost from_gives = { λ answer figures. figures ≡ told_of answer };
+
+    fn from(answer: Answer) -> LogFigures {
         LogFigures {
             days: answer.days,
             readings: answer.readings,
@@ -37,21 +34,16 @@ impl LogFigures {
             stop: number_of(answer.stop),
         }
     }
+}
 
-    // Eight zeros and the number of what refused the table.
-    pub fn unopened(fault: &TableFault) -> LogFigures
-        ensures { result ≡ only_number (table_refusal fault.now).number }
-    {
+// Eight zeros and the number of what refused the table.
+impl From<TableFault> for LogFigures {
+    ghost from_gives = { λ fault figures. figures ≡ only_number (table_refusal fault).number };
+
+    fn from(fault: TableFault) -> LogFigures {
         LogFigures {
-            days: 0,
-            readings: 0,
-            rain: 0,
-            stream: 0,
-            vapour: 0,
-            deep: 0,
-            start: 0,
-            end: 0,
             stop: fault.number(),
+            ..LogFigures::default()
         }
     }
 }

@@ -1,5 +1,5 @@
 // The figures that a log tells.
-#[derive(Clone, Copy)]
+#[derive(Clone, Copy, Debug, Default, PartialEq, Eq)]
 pub struct LogFigures {
     // How many days were accepted.
     pub days: u64,

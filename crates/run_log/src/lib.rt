@@ -1,8 +1,9 @@
 #![tactic(auto)]
 // The log of a run: nine lines of a name and a number, written into the caller's buffer.
 pub mod answers;
+mod cursor;
+mod display;
 pub mod figures;
 mod line;
 mod lines;
-mod number;
 pub mod write;

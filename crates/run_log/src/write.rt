@@ -2,8 +2,9 @@
 ghost use Rattle.std.specs.Prelude.{◌≡◌, length};
 ghost use Rattle.run_log.specs.Log.{Logged, log_bytes};
 
+use crate::cursor::Cursor;
 use crate::figures::LogFigures;
-use crate::line::{line_length, put_line};
+use crate::line::line_length;
 use refusals::log::BufferShort;
 
 impl LogFigures {
@@ -11,11 +12,10 @@ impl LogFigures {
     pub fn length(&self) -> usize
         ensures { result ≡ length (log_bytes self.now) }
     {
-        let mut total = 0;
-        for (name, number) in self.lines() {
-            total += line_length(name, number);
-        }
-        total
+        self.lines()
+            .iter()
+            .map(|(name, number)| line_length(name, *number))
+            .sum()
     }
 
     // Writes the log to the start of the buffer, and answers its length.
@@ -29,11 +29,11 @@ impl LogFigures {
             });
         }
         let lines = self.lines();
-        let mut at = 0;
+        let mut log = Cursor::new(buffer);
         for (name, number) in lines {
-            at = put_line(buffer, at, name, number);
+            log.put_line(name, number);
         }
-        Ok(at)
+        Ok(needed)
     }
 }
 

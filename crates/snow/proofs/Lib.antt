@@ -1,2 +1,1 @@
 pub mod Warm
-pub mod Melt

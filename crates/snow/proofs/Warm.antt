@@ -2,7 +2,8 @@
 use Rattle.std.proofs.Common.{◌≡◌, ℕ, ◌-◌, ◌≤◌, ℤ, pos, ◌+ℤ◌, ◌*ℤ◌, arith, w32, SFits, to_z, of_z}
 use lib.Signed.{quot_z}
 use Rattle.std.proofs.lemmas.Int.{to_z-of_z, to_z_pos}
-use Rattle.weather.proofs.Mild.{Small, small_scaled, small_sum, small_more, small_thousandth, small_fits}
+use Rattle.weather.proofs.Mild.{Small, small_scaled, small_sum, small_more, small_thousandth, small_fits, small_from}
+use Rattle.snow.specs.declared.pack.Pack.{Pack}
 
 module _ (l : ℕ) (t m : ℤ) (h : l ≤ 1000) (st : Small 6000 t) (sm : Small 6000 m) where
   pub mixed : Small 6000000 (pos (1000 - l) *ℤ t +ℤ pos l *ℤ m)
@@ -49,3 +50,6 @@ module _ (l : ℕ) (t m : ℤ) (h : l ≤ 1000) (st : Small 6000 t) (sm : Small 
       let f : SFits w32 (pos (1000 - l) *ℤ t +ℤ pos l *ℤ m) = small_fits (omega arith) mixed in
       let g : SFits w32 (quot_z (pos (1000 - l) *ℤ t +ℤ pos l *ℤ m) (pos 1000)) = small_fits (omega arith) next_small in
       rw (sum_is, to_z-of_z w32 (pos (1000 - l) *ℤ t +ℤ pos l *ℤ m), to_z-of_z w32 (quot_z (pos (1000 - l) *ℤ t +ℤ pos l *ℤ m) (pos 1000)))
+
+pub pack_mild : (p : Pack) → Small 6000 p.temperature
+pack_mild p = small_from 6000 p.temperature p.cold.0 p.cold.1

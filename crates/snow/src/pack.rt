@@ -1,7 +1,7 @@
 // The snow of a snowpack, without what lies below it.
 ghost use Rattle.std.specs.Prelude.{◌≤◌, pos, negsuc, ◌≤ℤ◌};
 
-#[derive(Clone, Copy)]
+#[derive(Clone, Copy, Debug, PartialEq, Eq)]
 pub struct Pack {
     // Snow water equivalent.
     pub water: u32,

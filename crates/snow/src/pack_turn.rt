@@ -9,7 +9,7 @@ use stores::store::LIMIT;
 use weather::day::Day;
 
 // What a pack hands on in a day: to the store below, and to the air.
-#[derive(Clone, Copy)]
+#[derive(Clone, Copy, Debug, PartialEq, Eq)]
 pub(crate) struct Passed {
     pub below: u32,
     pub vapour: u32,
@@ -27,24 +27,14 @@ impl Pack {
     ) -> Result<Pack, SnowpackSetting>
         ensures { PackMade water temperature snowfall melting lag factor result }
     {
-        let Some(water) = natural(water, 0, LIMIT) else {
-            return Err(SnowpackSetting::SnowWater);
-        };
-        let Some(temperature) = integer(temperature, -6000, 6000) else {
-            return Err(SnowpackSetting::PackTemperature);
-        };
-        let Some(snowfall) = integer(snowfall, -500, 500) else {
-            return Err(SnowpackSetting::SnowfallTemperature);
-        };
-        let Some(melting) = integer(melting, -500, 500) else {
-            return Err(SnowpackSetting::MeltTemperature);
-        };
-        let Some(lag) = natural(lag, 0, 1000) else {
-            return Err(SnowpackSetting::Lag);
-        };
-        let Some(factor) = natural(factor, 0, 20_000) else {
-            return Err(SnowpackSetting::MeltFactor);
-        };
+        let water = natural(water, 0, LIMIT).ok_or(SnowpackSetting::SnowWater)?;
+        let temperature = integer(temperature, -6000, 6000).ok_or(
+            SnowpackSetting::PackTemperature,
+        )?;
+        let snowfall = integer(snowfall, -500, 500).ok_or(SnowpackSetting::SnowfallTemperature)?;
+        let melting = integer(melting, -500, 500).ok_or(SnowpackSetting::MeltTemperature)?;
+        let lag = natural(lag, 0, 1000).ok_or(SnowpackSetting::Lag)?;
+        let factor = natural(factor, 0, 20_000).ok_or(SnowpackSetting::MeltFactor)?;
         Ok(Pack {
             water,
             temperature,
@@ -58,7 +48,8 @@ impl Pack {
     // The pack's temperature after the day.
     fn warmed(&self, day: &Day) -> i32
         ensures value { result ≡ warmed_to self.now day.now }
-        ensures bound { (result ≤ℤ pos 6000) × (negsuc 5999 ≤ℤ result) }
+        ensures most { result ≤ℤ pos 6000 }
+        ensures least { negsuc 5999 ≤ℤ result }
     {
         let mean = day.mean();
         let kept = (1000 - self.lag) as i32 * self.temperature;
@@ -66,22 +57,21 @@ impl Pack {
         (kept + new) / 1000
     }
 
-    // How far a pack of this temperature is above melting on the day.
-    fn heat(&self, temperature: i32, day: &Day) -> i32
-        requires { (temperature ≤ℤ pos 6000) × (negsuc 5999 ≤ℤ temperature) }
-        ensures value { result ≡ heat_at self.now temperature day.now }
+    // How far the pack is above melting on the day.
+    fn heat(&self, day: &Day) -> i32
+        ensures value { result ≡ heat_at self.now self.now.temperature day.now }
         ensures bound { result ≤ℤ pos 13000 }
     {
-        temperature + day.highest - 2 * self.melting
+        self.temperature + day.highest - 2 * self.melting
     }
 
     // What melts of so much lying snow.
-    fn melted(&self, lying: u32, temperature: i32, day: &Day) -> u32
-        requires { (temperature ≤ℤ pos 6000) × (negsuc 5999 ≤ℤ temperature) }
-        ensures value { result ≡ melt_at self.now lying temperature day.now }
+    #[tactic(auto, unfolding(crate::specs::Pack::melt_at))]
+    fn melted(&self, lying: u32, day: &Day) -> u32
+        ensures value { result ≡ melt_at self.now lying self.now.temperature day.now }
         ensures bound { result ≤ lying }
     {
-        let heat = self.heat(temperature, day);
+        let heat = self.heat(day);
         if heat <= 0 || day.highest <= 0 {
             return 0;
         }
@@ -89,6 +79,7 @@ impl Pack {
     }
 
     // What of an inflow joins the pack.
+    #[tactic(auto, unfolding(crate::specs::Pack::snow_of))]
     fn snowed(&self, inflow: u32, day: &Day) -> u32
         ensures value { result ≡ snow_of self.now inflow day.now }
         ensures bound { result ≤ inflow }
@@ -101,6 +92,7 @@ impl Pack {
     }
 
     // One day of the pack.
+    #[tactic(auto, unfolding(crate::specs::Pack::melt_at))]
     pub(crate) fn turn(&mut self, inflow: u32, demand: u32, day: &Day) -> Passed
         requires { self.old.water + inflow ≤ 100000000 }
         ensures turned { PackTurn self.old inflow demand day.now self.new }
@@ -108,14 +100,14 @@ impl Pack {
         ensures balance { self.new.water + result.below + result.vapour ≡ self.old.water + inflow }
         ensures drunk { result.vapour ≤ demand }
     {
-        let temperature = self.warmed(day);
         let snow = self.snowed(inflow, day);
         let lying = self.water + snow;
-        let melt = self.melted(lying, temperature, day);
+        // The new temperature decides what melts.
+        self.temperature = self.warmed(day);
+        let melt = self.melted(lying, day);
         let left = lying - melt;
         let vapour = left.min(demand);
         self.water = left - vapour;
-        self.temperature = temperature;
         Passed {
             below: inflow - snow + melt,
             vapour,

@@ -1,18 +1,12 @@
--- Months counted one by one. Assumes nothing.
-use Rattle.std.proofs.Common.{◌≡◌, ℕ, ◌+◌, ◌<◌, ◌≤◌, cond, ltb, List, length, get_or, drop, arith}
-use Rattle.std.proofs.lemmas.List.{at_drop_more, at_drop_all}
-use Rattle.std.proofs.lemmas.Bool.Decides.{nat_tests}
+-- Months that ended, as a count of those before a date. Assumes nothing.
+use Rattle.std.proofs.Common.{◌≡◌, ℕ, ◌+◌, Bool, true, false, cond, ltb, List, refl, sym, arith}
+use Rattle.std.proofs.lemmas.List.Recursion.{is_count_by}
+use Rattle.std.specs.List.{count_by}
 use Rattle.sources.specs.Calendar.{ended_before}
 
-ended_more : (ends : List ℕ) (i date : ℕ) → i < length ends → ended_before (drop i ends) date ≡ cond (ltb (get_or ends i 0) date) 1 0 + ended_before (drop (i + 1) ends) date
-ended_more ends i date h = at_drop_more (λ (l : List ℕ). ended_before l date) ends i 0 h
+one_more : (b : Bool) (n : ℕ) → cond b 1 0 + n ≡ cond b (1 + n) n
+one_more true n = refl
+one_more false n = omega arith
 
--- one month more, and one that has not ended
-pub ended_then : (ends : List ℕ) (i date : ℕ) → i < length ends → get_or ends i 0 < date → ended_before (drop i ends) date ≡ 1 + ended_before (drop (i + 1) ends) date
-ended_then ends i date h t = let e = ended_more ends i date h in grind (arith, nat_tests)
-
-pub ended_else : (ends : List ℕ) (i date : ℕ) → i < length ends → date ≤ get_or ends i 0 → ended_before (drop i ends) date ≡ ended_before (drop (i + 1) ends) date
-ended_else ends i date h t = let e = ended_more ends i date h in grind (arith, nat_tests)
-
-pub ended_all : (ends : List ℕ) (i date : ℕ) → length ends ≤ i → ended_before (drop i ends) date ≡ 0
-ended_all ends i date h = at_drop_all (λ (l : List ℕ). ended_before l date) ends i h
+pub ended_count : (ends : List ℕ) (date : ℕ) → count_by (λ end. ltb end date) ends ≡ ended_before ends date
+ended_count ends date = sym (is_count_by (λ (l : List ℕ). ended_before l date) (λ end. ltb end date) refl (λ end l. one_more (ltb end date) (ended_before l date)) ends)

@@ -1,14 +1,9 @@
 -- Where the records of a table lie, and that parts of its bytes hold the same numbers. Assumes nothing.
 use Rattle.std.proofs.Common.{◌≡◌, ℕ, ◌+◌, ◌*◌, ◌<◌, ◌≤◌, List, get_or, ap, ◌∙◌, arith}
 use Rattle.std.specs.List.{between}
-use Rattle.std.proofs.lemmas.Nat.{mul-le}
 use Rattle.std.proofs.lemmas.List.Edits.{get_or-between}
 use Rattle.sources.specs.Bytes.{word_at, half_at}
 use Rattle.sources.specs.Records.{block_of, record_of, figures_at}
-
--- the block of a station ends within the table
-pub block_within : (days s n total : ℕ) → s < n → total ≡ 20 + 12 * n * days → 20 + 12 * days * s + 12 * days ≤ total
-block_within days s n total h e = omega (arith, mul-le (s + 1) days n days (omega arith) (omega arith))
 
 -- ---- the numbers of a part are those of the whole, further on
 byte_part : (bytes : List ℕ) (i j k at : ℕ) → i + k < j → at ≡ i + k → get_or (between i j bytes) k 0 ≡ get_or bytes at 0

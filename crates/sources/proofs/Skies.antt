@@ -1,12 +1,15 @@
 -- What a record says, from what `Day::new` says of its figures. Assumes nothing.
-use Rattle.std.proofs.Common.{◌≡◌, ℕ, ◌<◌, Bool, true, false, cond, eqb, ℤ, pos, Ok, Err, Option, Result, ap, ◌∙◌, subst, arith, w16, w64, SFits, to_z, of_z}
+use Rattle.std.proofs.Common.{◌≡◌, ℕ, ◌<◌, Bool, true, false, cond, eqb, ℤ, pos, Ok, Err, Option, Result, sym, ap, ◌∙◌, subst, arith, w16, w64, SFits, to_z, of_z}
 use Rattle.std.proofs.lemmas.Int.{to_z-of_z, to_z_pos}
 use Rattle.std.proofs.lemmas.Bool.Decides.{nat_tests}
-use Rattle.refusals.specs.Refusals.{Refusal}
+use Rattle.std.specs.Result.{MatchResult, IsErrAnd}
+use Rattle.refusals.specs.Refusals.{Refusal, told, weather_refusal}
 use Rattle.refusals.specs.declared.day.DayFault.{DayFault}
+use Rattle.refusals.specs.declared.weather.WeatherFault.{WeatherFault}
+use Rattle.refusals.specs.declared.weather.WeatherFault.TheVariants.{Outside}
 use Rattle.weather.specs.declared.day.Day.{Day}
 use Rattle.weather.specs.Days.{Figures, figures, DayMade}
-use Rattle.weather.specs.Meaning.{known, missing, outside}
+use Rattle.weather.specs.Meaning.{known, missing, outside, seen}
 use Rattle.sources.specs.Records.{judged, figures_fault, sky_of}
 
 -- a day asked for with these figures
@@ -25,13 +28,19 @@ sky_told f h =
     let b : eqb f.rain 4294967295 ≡ false = grind (arith, nat_tests) in
     ap (λ (t : Bool). cond t missing (judged (figures_fault f) f)) b
 
-pub sky_known : (f : Figures) (w : Day) → (f.rain ≡ 4294967295 → ⊥) → MadeOf f (Ok w) → sky_of f ≡ known (figures w)
+sky_known : (f : Figures) (w : Day) → (f.rain ≡ 4294967295 → ⊥) → MadeOf f (Ok w) → sky_of f ≡ known (figures w)
 sky_known f w h m =
     let same : ◌≡◌ {A = Figures} (record { date = f.date; rain = f.rain; highest = f.highest; lowest = f.lowest; demand = f.demand }) (figures w) = cc in
     sky_told f h ∙ ap (λ (o : Option Refusal). judged o f) m.0 ∙ ap known same
 
-pub sky_outside : (f : Figures) (e : DayFault) → (f.rain ≡ 4294967295 → ⊥) → MadeOf f (Err e) → sky_of f ≡ outside
+sky_outside : (f : Figures) (e : DayFault) → (f.rain ≡ 4294967295 → ⊥) → MadeOf f (Err e) → sky_of f ≡ outside
 sky_outside f e h m = sky_told f h ∙ ap (λ (o : Option Refusal). judged o f) m
+
+-- what a caller is told of a day asked for: the day, or that a figure is outside
+pub sky_made : (s i : ℕ) (f : Figures) (r : Result Day DayFault) (x : Result Day WeatherFault) → (f.rain ≡ 4294967295 → ⊥) → MadeOf f r → MatchResult r (λ w. x ≡ Ok w) (λ e. IsErrAnd x (λ t. t ≡ Outside s i)) → told figures weather_refusal x ≡ seen s i (sky_of f)
+sky_made s i f (Ok w) x h m e = ap (told figures weather_refusal) e ∙ ap (seen s i) (sym (sky_known f w h m))
+sky_made s i f (Err d) (Ok w) h m e = absurd e
+sky_made s i f (Err d) (Err t) h m e = ap (λ (v : WeatherFault). Err (weather_refusal v)) e ∙ ap (seen s i) (sym (sky_outside f d h m))
 
 -- ---- figures as the code hands them over, at 64 bits
 wide : (n m : ℕ) → n < 4294967296 → n ≡ m → to_z w64 n ≡ pos m

@@ -1,9 +1,11 @@
 -- What a weather table means, said of its bytes. Assumes nothing.
-use Rattle.std.specs.Prelude.{ℕ, ◌+◌, ◌*◌, ◌≤◌, List}
+use Rattle.std.specs.Prelude.{◌≡◌, ℕ, ◌+◌, ◌*◌, ◌≤◌, List, Ok, Err, Result}
 use Rattle.std.proofs.Common.{arith}
+use Rattle.refusals.specs.declared.table.TableFault.{TableFault}
 use Rattle.weather.specs.Meaning.{Meaning}
 use Rattle.sources.specs.Bytes.{word_at}
 use Rattle.sources.specs.Calendar.{date_at, date_within}
+use Rattle.sources.specs.Header.{HeaderRead}
 use Rattle.sources.specs.Records.{sky_at, sky_possible, sky_dated}
 use Rattle.sources.specs.declared.table.WeatherTable.{WeatherTable}
 
@@ -27,3 +29,8 @@ table_meaning bytes stationed lasting = record {
 
 abbrev pub table_means : WeatherTable → Meaning
 table_means t = table_meaning t.bytes.now (omega (arith, t.headed.0, t.span.stationed), omega (arith, t.headed.0, t.span.stationed)) (omega (arith, t.headed.1, t.span.lasting), omega (arith, t.headed.1, t.span.lasting))
+
+-- the table of these bytes with the span that their header gives, or the refusal
+abbrev pub Opened : List ℕ → Result WeatherTable TableFault → Type 0
+Opened bytes (Ok t) = (t.bytes.now ≡ bytes) × HeaderRead bytes (Ok t.span)
+Opened bytes (Err e) = HeaderRead bytes (Err e)

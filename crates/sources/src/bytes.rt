@@ -1,4 +1,4 @@
-// Little-endian numbers in bytes.
+// Little-endian numbers in bytes, each byte by its place: `first_chunk` would test a length that is known.
 ghost use Rattle.std.specs.Prelude.{◌≡◌, ◌+◌, ◌≤◌, length};
 ghost use Rattle.sources.specs.Bytes.{word_at, half_at};
 

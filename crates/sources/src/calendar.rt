@@ -1,5 +1,5 @@
 // Years of 365 days. Nothing else knows how dates follow one another.
-ghost use Rattle.std.specs.Prelude.{◌≡◌, ◌<◌};
+ghost use Rattle.std.specs.Prelude.{◌≡◌, ◌<◌, ◌≤◌, length, count_by, nat_lt};
 ghost use Rattle.sources.specs.Calendar.{date_at, month_of};
 
 // The last day of each month but December.
@@ -12,16 +12,18 @@ pub fn date_at(first: u16, index: u64) -> u16
     ((first.saturating_sub(1) as u64 + index % 365) % 365 + 1) as u16
 }
 
+// How many of these days lie before a date.
+fn ended_before(ends: &[u16], date: u16) -> usize
+    ensures value { result ≡ count_by (λ end. nat_lt end date) ends.now }
+    ensures bound { result ≤ length ends.now }
+{
+    ends.iter().filter(|end| **end < date).count()
+}
+
 // The month of a day of the year, from 0.
 pub fn month_of(date: u16) -> usize
     ensures value { result ≡ month_of date }
     ensures bound { result < 12 }
 {
-    let mut month = 0;
-    for i in 0..11 {
-        if MONTH_ENDS[i] < date {
-            month += 1;
-        }
-    }
-    month
+    ended_before(&MONTH_ENDS, date)
 }

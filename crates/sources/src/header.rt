@@ -12,10 +12,11 @@ fn count(bytes: &[u8], place: usize, greatest: u32, field: HeaderCount) -> Resul
     ensures { CountRead bytes.now place greatest field result }
 {
     let count = word(bytes, place);
-    if count < 1 || count > greatest {
-        return Err(TableFault::Header(field));
+    if (1..=greatest).contains(&count) {
+        Ok(count)
+    } else {
+        Err(TableFault::Header(field))
     }
-    Ok(count)
 }
 
 impl Span {
@@ -29,7 +30,7 @@ impl Span {
         }
         let stations = count(bytes, 0, 64, HeaderCount::StationCount)?;
         let days = count(bytes, 4, 36_500, HeaderCount::DayCount)?;
-        let _ = count(bytes, 8, 9_999, HeaderCount::FirstYear)?;
+        count(bytes, 8, 9_999, HeaderCount::FirstYear)?;
         let first = count(bytes, 12, 365, HeaderCount::FirstDate)?;
         if length != 20 + 12 * stations as usize * days as usize {
             return Err(TableFault::Size);

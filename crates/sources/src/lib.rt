@@ -10,4 +10,5 @@ mod records;
 pub mod span;
 mod span_dates;
 pub mod table;
+mod table_open;
 pub mod table_source;

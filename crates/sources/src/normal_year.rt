@@ -4,7 +4,7 @@ ghost use Rattle.std.specs.Prelude.{◌≡◌};
 use crate::span::Span;
 use weather::day::Day;
 
-#[derive(Clone, Copy)]
+#[derive(Clone, Copy, Debug, PartialEq, Eq)]
 pub struct NormalYear {
     // A day of each month; its own date is not used.
     pub months: [Day; 12],

@@ -16,12 +16,8 @@ impl NormalYear {
     ) -> Result<NormalYear, NormalYearSetting>
         ensures { YearMade months stations first result }
     {
-        let Some(stations) = natural(stations, 1, 64) else {
-            return Err(NormalYearSetting::Stations);
-        };
-        let Some(first) = natural(first, 1, 365) else {
-            return Err(NormalYearSetting::FirstDay);
-        };
+        let stations = natural(stations, 1, 64).ok_or(NormalYearSetting::Stations)?;
+        let first = natural(first, 1, 365).ok_or(NormalYearSetting::FirstDay)?;
         let span = Span {
             stations: stations as u8,
             days: 36_500,

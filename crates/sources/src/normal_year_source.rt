@@ -10,19 +10,16 @@ use weather::day::Day;
 use weather::source::WeatherSource;
 
 // The weather of a day, as of another date.
-fn on_date(date: u16, day: Day) -> Day
-    requires { (1 ≤ date) × (date ≤ 365) }
+fn on_date(date: u16, mut day: Day) -> Day
+    requires first { 1 ≤ date }
+    requires last { date ≤ 365 }
     ensures { figures result ≡ on_date date (figures day) }
 {
-    Day {
-        date,
-        rain: day.rain,
-        highest: day.highest,
-        lowest: day.lowest,
-        demand: day.demand,
-    }
+    day.date = date;
+    day
 }
 
+// Stations, days and dates are the span's, each in one line; a trait of what has a span would take as many.
 impl WeatherSource for NormalYear {
     ghost means = { year_means };
 

@@ -45,14 +45,12 @@ pub(crate) fn day_of(bytes: &[u8], date: u16, station: u64, index: u64) -> Resul
     let highest = half(bytes, 4);
     let lowest = half(bytes, 6);
     let demand = word(bytes, 8);
-    match Day::new(
+    Day::new(
         date as i64,
         rain as i64,
         highest as i64,
         lowest as i64,
         demand as i64,
-    ) {
-        Ok(day) => Ok(day),
-        Err(_) => Err(WeatherFault::Outside(station, index)),
-    }
+    )
+    .map_err(|_| WeatherFault::Outside(station, index))
 }

@@ -1,7 +1,7 @@
 // The stations and the days of a source, and the day of the year of its first.
 ghost use Rattle.std.specs.Prelude.{◌≤◌};
 
-#[derive(Clone, Copy)]
+#[derive(Clone, Copy, Debug, PartialEq, Eq)]
 pub struct Span {
     pub stations: u8,
     pub days: u16,

@@ -12,10 +12,7 @@ impl Span {
     pub(crate) fn date(&self, index: u64) -> Result<u16, WeatherFault>
         ensures { told (λ (n : ℕ). n) weather_refusal result ≡ date_in self.now index }
     {
-        if index >= self.days as u64 {
-            return Err(WeatherFault::NoIndex(0, index));
-        }
-        Ok(date_at(self.first, index))
+        self.place(0, index)
     }
 
     // The day of the year of a station's index, where both exist.

@@ -3,7 +3,7 @@ ghost use Rattle.sources.specs.Header.{Headed, Stamped};
 
 use crate::span::Span;
 
-#[derive(Clone, Copy)]
+#[derive(Clone, Copy, Debug, PartialEq, Eq)]
 pub struct WeatherTable<'a> {
     pub bytes: &'a [u8],
     pub span: Span,

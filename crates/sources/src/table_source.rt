@@ -7,6 +7,7 @@ use refusals::weather::WeatherFault;
 use weather::day::Day;
 use weather::source::WeatherSource;
 
+// Stations, days and dates are the span's, each in one line; a trait of what has a span would take as many.
 impl<'a> WeatherSource for WeatherTable<'a> {
     ghost means = { table_means };
 

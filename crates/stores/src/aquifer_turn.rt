@@ -21,18 +21,10 @@ impl Aquifer {
     ) -> Result<Aquifer, AquiferSetting>
         ensures { AquiferMade water deep threshold recession result }
     {
-        let Some(water) = natural(water, 0, LIMIT) else {
-            return Err(AquiferSetting::GroundWater);
-        };
-        let Some(deep) = Share::new(deep) else {
-            return Err(AquiferSetting::DeepShare);
-        };
-        let Some(threshold) = natural(threshold, 0, LIMIT) else {
-            return Err(AquiferSetting::FlowThreshold);
-        };
-        let Some(recession) = Share::new(recession) else {
-            return Err(AquiferSetting::FlowShare);
-        };
+        let water = natural(water, 0, LIMIT).ok_or(AquiferSetting::GroundWater)?;
+        let deep = Share::new(deep).ok_or(AquiferSetting::DeepShare)?;
+        let threshold = natural(threshold, 0, LIMIT).ok_or(AquiferSetting::FlowThreshold)?;
+        let recession = Share::new(recession).ok_or(AquiferSetting::FlowShare)?;
         Ok(Aquifer {
             water,
             deep,
@@ -56,13 +48,13 @@ impl Store for Aquifer {
             return Err(Overfull);
         }
         let deep = self.deep.of(inflow as u64) as u32;
-        let mut water = self.water + (inflow - deep);
-        let mut side = 0;
-        if water > self.threshold {
-            side = self.recession.of(water as u64) as u32;
-            water -= side;
-        }
-        self.water = water;
+        let water = self.water + (inflow - deep);
+        let side = if water > self.threshold {
+            self.recession.of(water as u64) as u32
+        } else {
+            0
+        };
+        self.water = water - side;
         Ok(Flows {
             side,
             vapour: 0,

@@ -1,5 +1,5 @@
 // What leaves a store on a day, in micrometres.
-#[derive(Clone, Copy)]
+#[derive(Clone, Copy, Debug, PartialEq, Eq)]
 pub struct Flows {
     pub side: u32,
     pub vapour: u32,

@@ -8,7 +8,7 @@ use crate::store::{LIMIT, Store};
 use refusals::store::Overfull;
 use weather::day::Day;
 
-#[derive(Clone, Copy)]
+#[derive(Clone, Copy, Debug, PartialEq, Eq)]
 pub struct Rock;
 
 impl Store for Rock {

@@ -9,9 +9,8 @@ use refusals::store::Overfull;
 pub fn room(own: u64, lower: u32, inflow: u32) -> Result<u32, Overfull>
     ensures { Told (own + lower + inflow) (own + lower + inflow) result }
 {
-    let more = lower as u64 + inflow as u64;
-    if own > LIMIT as u64 || more > LIMIT as u64 - own {
-        return Err(Overfull);
-    }
-    Ok((own + more) as u32)
+    own.checked_add(lower as u64 + inflow as u64)
+        .filter(|water| *water <= LIMIT as u64)
+        .map(|water| water as u32)
+        .ok_or(Overfull)
 }

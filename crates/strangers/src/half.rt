@@ -7,7 +7,7 @@ use stores::flows::Flows;
 use stores::store::{LIMIT, Store};
 use weather::day::Day;
 
-#[derive(Clone, Copy)]
+#[derive(Clone, Copy, Debug, PartialEq, Eq)]
 pub struct Half {
     pub water: u32,
 }
@@ -20,7 +20,7 @@ impl Store for Half {
     ghost root_within = { Prim.search rules };
 
     fn turn(&mut self, inflow: u32, _demand: u32, _day: &Day) -> Result<Flows, Overfull> {
-        if self.water > LIMIT || inflow > LIMIT - self.water {
+        if self.water.saturating_add(inflow) > LIMIT {
             return Err(Overfull);
         }
         let side = inflow / 2;

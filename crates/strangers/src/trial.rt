@@ -3,11 +3,11 @@
 mod tests {
     use crate::half::Half;
     use crate::steady::Steady;
-    use basin::answer::Answer;
+    use basin::answer::{Answer, Sums};
     use basin::basin::Basin;
     use fixed::share::Share;
     use network::channel::Channel;
-    use network::flows::{ReachFlow, UnitFlow};
+    use network::flows::{NO_REACH_FLOW, NO_UNIT_FLOW};
     use network::reach::Reach;
     use network::site::Site;
     use std::alloc::{AllocError, Global};
@@ -25,6 +25,7 @@ mod tests {
             surface: 0,
             evaporation: Share { millionths: 0 },
         };
+        // No `..upper`: the kit has none yet for a struct with a ghost field.
         let lower = Channel {
             next: None,
             station: 0,
@@ -63,19 +64,12 @@ mod tests {
 
     // A run of n days under 1,001 micrometres of rain a day.
     fn rained(basin: &mut Basin<Half>, n: u64) -> Answer {
-        let dry = UnitFlow {
-            rain: 0,
-            side: 0,
-            vapour: 0,
-            deep: 0,
-        };
-        let empty = ReachFlow {
-            inflow: 0,
-            outflow: 0,
-            vapour: 0,
-            deep: 0,
-        };
-        basin.run(&Steady { rain: 1_001 }, n, &mut [dry; 2], &mut [empty; 2])
+        basin.run(
+            &Steady { rain: 1_001 },
+            n,
+            &mut [NO_UNIT_FLOW; 2],
+            &mut [NO_REACH_FLOW; 2],
+        )
     }
 
     // What stays and what left is what was there and what came.
@@ -90,18 +84,27 @@ mod tests {
 
     // A balance of all its days, with these days, readings, rain, stream, vapour, deep, start and end.
     fn tells(answer: &Answer, numbers: [u128; 8]) -> bool {
-        let sums = answer.sums;
-        let [days, readings, rain, stream, vapour, deep, start, end] = numbers;
+        let Sums {
+            rain,
+            stream,
+            vapour,
+            deep,
+        } = answer.sums;
+        let days = answer.days as u128;
+        let readings = answer.readings as u128;
         balances(answer)
             && answer.stop.is_none()
-            && answer.days as u128 == days
-            && answer.readings as u128 == readings
-            && sums.rain == rain
-            && sums.stream == stream
-            && sums.vapour == vapour
-            && sums.deep == deep
-            && answer.start == start
-            && answer.end == end
+            && numbers
+                == [
+                    days,
+                    readings,
+                    rain,
+                    stream,
+                    vapour,
+                    deep,
+                    answer.start,
+                    answer.end,
+                ]
     }
 
     // Each day 501 of 1,001 stay in a unit, and 3 x 500 and 5 x 500 come to the reaches; it rains 8 x 1,001.

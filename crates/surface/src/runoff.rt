@@ -14,18 +14,10 @@ impl Retention {
     pub fn new(greatest: i64, full: i64, c1: i64, c2: i64) -> Result<Retention, SurfaceSetting>
         ensures { RetentionMade greatest full c1 c2 result }
     {
-        let Some(greatest) = natural(greatest, 0, 1_000_000) else {
-            return Err(SurfaceSetting::Retention);
-        };
-        let Some(full) = natural(full, 1, LIMIT) else {
-            return Err(SurfaceSetting::FullWater);
-        };
-        let Some(c1) = integer(c1, -16_383, 16_383) else {
-            return Err(SurfaceSetting::FirstShape);
-        };
-        let Some(c2) = natural(c2, 0, 32_767) else {
-            return Err(SurfaceSetting::SecondShape);
-        };
+        let greatest = natural(greatest, 0, 1_000_000).ok_or(SurfaceSetting::Retention)?;
+        let full = natural(full, 1, LIMIT).ok_or(SurfaceSetting::FullWater)?;
+        let c1 = integer(c1, -16_383, 16_383).ok_or(SurfaceSetting::FirstShape)?;
+        let c2 = natural(c2, 0, 32_767).ok_or(SurfaceSetting::SecondShape)?;
         let shape = Shape { c1, c2 };
         Ok(Retention {
             greatest,
@@ -35,6 +27,7 @@ impl Retention {
     }
 
     // How full the roots are; what passes full soil is full.
+    #[tactic(auto, unfolding(crate::specs::Runoff::fullness))]
     fn fullness(&self, root: u32) -> Share
         ensures { result.millionths ≡ fullness self.now root }
     {
@@ -64,8 +57,10 @@ impl Retention {
 }
 
 // What of an inflow runs off a surface that holds s back.
+#[tactic(auto, using(crate::proofs::Squares::runoff_le), unfolding(crate::specs::Runoff::runoff_of))]
 fn runs_off(inflow: u32, s: u32) -> u32
-    requires { (inflow ≤ 100000000) × (s ≤ 1000000) }
+    requires inflow { inflow ≤ 100000000 }
+    requires held { s ≤ 1000000 }
     ensures value { result ≡ runoff_of inflow s }
     ensures bound { result ≤ inflow }
 {

@@ -5,7 +5,7 @@ use Rattle.refusals.specs.declared.table.TableFault.{TableFault}
 use Rattle.sources.specs.Bytes.{word_at}
 use Rattle.sources.specs.Header.{table_fault, Headed, Stamped}
 use Rattle.sources.specs.Table.{table_meaning}
-use Rattle.sources.specs.declared.span.Span.{Span}
+use Rattle.sources.specs.declared.table.WeatherTable.{WeatherTable}
 use Rattle.weather.specs.declared.day.Day.{Day}
 use Rattle.stores.specs.declared.flows.Flows.{Flows}
 use Rattle.network.specs.declared.flows.UnitFlow.{UnitFlow}
@@ -20,9 +20,9 @@ use Rattle.run_log.specs.declared.figures.LogFigures.{LogFigures}
 abbrev pub open_fault : List ℕ → Option Refusal
 open_fault bytes = cond (nat_lt 60000 (length bytes)) (Some (refuse 21 (length bytes))) (table_fault bytes)
 
--- the span of bytes that nothing refuses, or that refusal
-abbrev pub OpenOr : List ℕ → Result Span TableFault → Type 0
-OpenOr bytes (Ok s) = (open_fault bytes ≡ None) × (Headed bytes s) × (Stamped bytes)
+-- a table over bytes that nothing refuses, or that refusal
+abbrev pub OpenOr : List ℕ → Result WeatherTable TableFault → Type 0
+OpenOr bytes (Ok t) = (open_fault bytes ≡ None) × (t.bytes.now ≡ bytes) × (Headed bytes t.span) × (Stamped bytes)
 OpenOr bytes (Err e) = open_fault bytes ≡ Some (table_refusal e)
 
 -- a run of the table's days, 3,660 at most, and the figures that its answer tells

@@ -6,7 +6,6 @@ use basin::basin::Basin;
 use network::flows::{ReachFlow, UnitFlow};
 use refusals::table::TableFault;
 use run_log::figures::LogFigures;
-use sources::span::Span;
 use sources::table::WeatherTable;
 use stores::store::Store;
 use weather::source::WeatherSource;
@@ -16,14 +15,14 @@ const LONGEST: usize = 60_000;
 
 const DAYS: u64 = 3660;
 
-// The span of a table, unless it is too long or the bytes are none.
-fn open(bytes: &[u8]) -> Result<Span, TableFault>
+// The table, unless it is too long or the bytes are none.
+fn open(bytes: &[u8]) -> Result<WeatherTable<'_>, TableFault>
     ensures { OpenOr bytes.now result }
 {
     if bytes.len() > LONGEST {
         return Err(TableFault::Length(bytes.len() as u64));
     }
-    Span::read(bytes)
+    WeatherTable::open(bytes)
 }
 
 // The table's days, as many as a run takes; where it is not opened, nothing but the refusal's number.
@@ -36,11 +35,10 @@ pub fn run_table<S: Store + Copy>(
     ensures { TableRunBy (open_fault bytes.now) S.Store.water S.Store.turns bytes.now unit_flows.old unit_flows.new reach_flows.old reach_flows.new (view basin.old) (view basin.new) result }
 {
     match open(bytes) {
-        Ok(span) => {
-            let table = WeatherTable { bytes, span };
+        Ok(table) => {
             let days = table.days().min(DAYS);
-            LogFigures::of(&basin.run(&table, days, unit_flows, reach_flows))
+            basin.run(&table, days, unit_flows, reach_flows).into()
         }
-        Err(fault) => LogFigures::unopened(&fault),
+        Err(fault) => fault.into(),
     }
 }

@@ -40,9 +40,6 @@ small_sum {b} {c} x y s t =
       | inr e ↦ record { high = omega (arith, e, sum_is_lem x y, s.high, t.high); low = omega (arith, e) }
     ]
 
-pub small_half : {b : ℕ} (a : ℤ) → Small b a → Small (b / 2) (quot_z a (pos 2))
-small_half a s = record { high = omega (arith, (quot_is a 2).0, s.high); low = omega (arith, (quot_is a 2).1, s.low) }
-
 pub small_thousandth : {b : ℕ} (a : ℤ) → Small b a → Small (b / 1000) (quot_z a (pos 1000))
 small_thousandth a s = record { high = omega (arith, (quot_is a 1000).0, s.high); low = omega (arith, (quot_is a 1000).1, s.low) }
 

@@ -26,10 +26,6 @@ day_same w v e =
       dry = le_at demand refl w.dry v.dry j;
     }
 
--- one answer of a source has one day's figures
-pub figures_same : (r : Result Figures Refusal) (f g : Figures) → r ≡ Ok f → r ≡ Ok g → f ≡ g
-figures_same r f g x y = cc
-
--- and so one day
+-- one answer of a source is one day
 pub answer_same : (r : Result Figures Refusal) (w v : Day) → r ≡ Ok (figures w) → r ≡ Ok (figures v) → w ≡ v
-answer_same r w v x y = day_same w v (figures_same r (figures w) (figures v) x y)
+answer_same r w v x y = let e : figures w ≡ figures v = cc in day_same w v e

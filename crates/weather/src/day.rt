@@ -1,7 +1,7 @@
 // A day of weather: none exists outside these limits.
 ghost use Rattle.std.specs.Prelude.{◌≤◌, pos, negsuc, ◌≤ℤ◌};
 
-#[derive(Clone, Copy)]
+#[derive(Clone, Copy, Debug, PartialEq, Eq)]
 pub struct Day {
     // Day of the year.
     pub date: u16,

@@ -1,5 +1,5 @@
 // How a day of weather is made, and its mean temperature.
-ghost use Rattle.std.specs.Prelude.{◌≡◌, pos, negsuc, ◌+ℤ◌, ◌≤ℤ◌, int_div};
+ghost use Rattle.std.specs.Prelude.{◌≡◌, pos, negsuc, ◌≤ℤ◌};
 ghost use Rattle.weather.specs.Days.{DayMade, mean_of};
 
 use crate::day::Day;
@@ -17,22 +17,12 @@ impl Day {
     ) -> Result<Day, DayFault>
         ensures { DayMade date rain highest lowest demand result }
     {
-        let Some(date) = natural(date, 1, 365) else {
-            return Err(DayFault::DayOfYear);
-        };
-        let Some(rain) = natural(rain, 0, 1_000_000) else {
-            return Err(DayFault::Rain);
-        };
-        let Some(highest) = integer(highest, -6000, 6000) else {
-            return Err(DayFault::Highest);
-        };
+        let date = natural(date, 1, 365).ok_or(DayFault::DayOfYear)?;
+        let rain = natural(rain, 0, 1_000_000).ok_or(DayFault::Rain)?;
+        let highest = integer(highest, -6000, 6000).ok_or(DayFault::Highest)?;
         // A lowest above the highest is a fault of the lowest.
-        let Some(lowest) = integer(lowest, -6000, highest) else {
-            return Err(DayFault::Lowest);
-        };
-        let Some(demand) = natural(demand, 0, 50_000) else {
-            return Err(DayFault::Demand);
-        };
+        let lowest = integer(lowest, -6000, highest).ok_or(DayFault::Lowest)?;
+        let demand = natural(demand, 0, 50_000).ok_or(DayFault::Demand)?;
         Ok(Day {
             date: date as u16,
             rain,
@@ -47,15 +37,6 @@ impl Day {
         ensures value { result ≡ mean_of self.now }
         ensures bound { (result ≤ℤ pos 6000) × (negsuc 5999 ≤ℤ result) }
     {
-        halfway(self.highest, self.lowest)
+        self.highest.midpoint(self.lowest)
     }
-}
-
-// Half the sum of two temperatures, cut toward zero.
-fn halfway(high: i32, low: i32) -> i32
-    requires { (high ≤ℤ pos 6000) × ((low ≤ℤ high) × (negsuc 5999 ≤ℤ low)) }
-    ensures value { result ≡ int_div (high +ℤ low) (pos 2) }
-    ensures bound { (result ≤ℤ pos 6000) × (negsuc 5999 ≤ℤ result) }
-{
-    (high + low) / 2
 }

@@ -1,17 +1,20 @@
-use Rattle.std.proofs.Common.{sym, refl}
+use Rattle.std.proofs.Common.{◌≡◌, Err, sym, refl, rules}
+use Rattle.balance.specs.declared.balance.Stop.TheVariants.{Store}
 use Rattle.balance.proofs.course.one_day.Goals as goal
 
-pub returns-in-Ok-turn : goal.returns-in-Ok-turn
-returns-in-Ok-turn g c = record {
-  day = c.in-Ok.day;
-  seen = sym c.in-Ok.ensures;
-  rain_is = refl;
-  kept = c.in-Ok-turn.ensures.0;
-  turned = c.in-Ok-turn.ensures.1;
-}
+pub returns-in_err-flows : goal.returns-in_err-flows
+returns-in_err-flows g c =
+    let is : c.from_residual-in_err-flows.result ≡ Err (Store c.in_err-flows.field-0.0) = search rules in
+    rw is (
+      record { day = c.in_ok-day.day; seen = search rules; full = c.in_err-flows.ensures.0 },
+      c.in_err-flows.ensures.1,
+    )
 
-pub returns-in-Err-turn : goal.returns-in-Err-turn
-returns-in-Err-turn g c = (
-  record { day = c.in-Ok.day; seen = sym c.in-Ok.ensures; full = c.in-Err-turn.ensures.0 },
-  c.in-Err-turn.ensures.1,
-)
+pub returns : goal.returns
+returns g c = record {
+  day = c.in_ok-day.day;
+  seen = sym c.in_ok-day.ensures;
+  rain_is = refl;
+  kept = c.in_ok-flows.ensures.0;
+  turned = c.in_ok-flows.ensures.1;
+}

@@ -1,21 +1,20 @@
-use Rattle.std.proofs.Common.{get_or, add-mul, arith}
+use Rattle.std.proofs.Common.{◌≡◌, ◌+◌, ◌*◌, sym, ◌∙◌, arith, rules}
+use Rattle.std.specs.List.{zip}
+use Rattle.std.proofs.lemmas.Iterator.{YieldsList-from_slice, YieldsList-from_map, YieldsList-from_zip}
+use Rattle.std.proofs.lemmas.Iterator.Adapters.{total_from_yields_List}
+use Rattle.std.proofs.lemmas.List.Sums.{sum-map}
 use Rattle.weather.specs.declared.day.Day.{Day}
-use Rattle.basin.proofs.Areas.{over_area_more, over_area_all, area_most}
+use Rattle.network.specs.declared.site.Site.{Site}
+use Rattle.basin.specs.Loops.{rain_fallen}
+use Rattle.basin.proofs.Areas.{over_area_sum, rain_most}
 use Rattle.basin.proofs.limits.rain_fallen.Goals as goal
-
-pub loop-i-preserved : goal.loop-i-preserved
-loop-i-preserved c =
-    let ss = c.args.sites.now in
-    let ws = c.args.weather.now in
-    let i = c.loop-i.i in
-    let s = c.index-sites-i.result in
-    let w = c.index-weather-i.result in
-    let e = over_area_more (λ (w : Day). w.rain) ss ws i s w c.loop-i-test.true (omega arith) in
-    let q = area_most (get_or ss i s) (get_or ws i w).rain 1000000 (get_or ws i w).wet in
-    let m = add-mul i 1 18446744073709551616 in
-    (omega arith, omega arith)
 
 pub returns : goal.returns
 returns c =
-    let e = over_area_all (λ (w : Day). w.rain) c.args.sites.now c.args.weather.now c.loop-i.i c.loop-i-test.false in
-    record { value = omega arith; small = omega arith }
+    let e : c.sum.result ≡ rain_fallen c.args.sites.now c.args.weather.now =
+    total_from_yields_List (λ a x. a + x) 0 c.sum.result c.sum.ensures.ran
+    (YieldsList-from_map _ (λ (p : Site × Day). p.0.area * p.1.rain) (YieldsList-from_zip (YieldsList-from_slice c.args.sites.now cc) (YieldsList-from_slice c.args.weather.now cc)) c.map.ensures.closure (λ x r q k. search rules))
+    ∙ sum-map (λ (p : Site × Day). p.0.area * p.1.rain) (zip c.args.sites.now c.args.weather.now)
+    ∙ sym (over_area_sum (λ (w : Day). w.rain) c.args.sites.now c.args.weather.now) in
+    let most = rain_most c.args.sites.now c.args.weather.now (omega arith) in
+    record { value = e; small = omega arith }

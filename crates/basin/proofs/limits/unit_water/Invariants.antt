@@ -5,4 +5,8 @@ use Rattle.basin.proofs.limits.unit_water.Given as goal
 
 abbrev pub invariant-loop-i : goal.invariant-loop-i
 invariant-loop-i g l = let water = g.S.Store.water in
-    (unit_fault water (rain_in l.weather) 0 l.units ≡ unit_fault water (rain_in l.weather) l.i (drop l.i l.units)) × (l.sum + unit_water water (drop l.i l.sites) (drop l.i l.units) ≡ unit_water water l.sites l.units) × (l.sum ≤ l.i * 18446744073709551616)
+    record {
+      left : unit_fault water (rain_in l.weather) 0 l.units ≡ unit_fault water (rain_in l.weather) l.i (drop l.i l.units);
+      held : l.sum + unit_water water (drop l.i l.sites) (drop l.i l.units) ≡ unit_water water l.sites l.units;
+      small : l.sum ≤ l.i * 18446744073709551616;
+    }

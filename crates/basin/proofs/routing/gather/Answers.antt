@@ -1,24 +1,21 @@
-use Rattle.std.proofs.Common.{arith, rules}
-use Rattle.basin.proofs.Flowing.{gathering_all, gathering_more, gathering_none, gathering_room, named_there}
+use Rattle.std.proofs.Common.{◌<◌, length, ap, arith, rules}
+use Rattle.std.proofs.lemmas.List.{length_push}
+use Rattle.std.proofs.lemmas.Slice.Zip.{zip_turn}
+use Rattle.network.specs.Records.{site0}
+use Rattle.network.specs.declared.site.Site.{Site}
+use Rattle.basin.proofs.Flowing.{gathering_none, gathering_more}
+use Rattle.basin.proofs.Places.{filled}
 use Rattle.basin.proofs.routing.gather.Goals as goal
 
-pub bounds-list-site : goal.bounds-list-site
-bounds-list-site c = named_there _ _ _ _ c.index-sites-i.result c.loop-i-test.true c.index-sites-i.is c.requires.there (omega arith)
+pub loop-site-init : goal.loop-site-init
+loop-site-init c = gathering_none _ _ _ (filled _ _ _ (c.fill.ensures.after (search rules)))
 
-pub overflow_add-list : goal.overflow_add-list
-overflow_add-list c =
-    let part = gathering_room c.loop-i.invariant c.loop-i-test.true c.requires.long c.index-sites-i.result c.index-sites-i.is (named_there _ _ _ _ c.index-sites-i.result c.loop-i-test.true c.index-sites-i.is c.requires.there (omega arith)) in
-    let small = c.requires.small c.index-sites-i.result.reach in
-    search rules
-
-pub bounds-list-site-in-loop-i : goal.bounds-list-site-in-loop-i
-bounds-list-site-in-loop-i c = named_there _ _ _ _ c.index-sites-i.result c.loop-i-test.true c.index-sites-i.is c.requires.there (omega arith)
-
-pub loop-i-init : goal.loop-i-init
-loop-i-init c = gathering_none _ _ _ c.clear_reaches.ensures
-
-pub loop-i-preserved : goal.loop-i-preserved
-loop-i-preserved c = gathering_more c.loop-i.invariant c.loop-i-test.true c.requires.long c.index-sites-i.result c.index-sites-i.is (named_there _ _ _ _ c.index-sites-i.result c.loop-i-test.true c.index-sites-i.is c.requires.there (omega arith))
-
-pub returns : goal.returns
-returns c = gathering_all c.loop-i.invariant c.loop-i-test.false
+pub loop-site-preserved : goal.loop-site-preserved
+loop-site-preserved c =
+    let ss = c.args.sites.now in
+    let fs = c.args.flows.now in
+    let s = c.in-Some.site.now in
+    let f = c.in-Some.flow.now in
+    let t = zip_turn ss fs c.loop-site.yielded c.into_iter-site-iterator.result c.loop-site.site-iterator c.next.new.self c.next.result (cc) (cc) c.loop-site.yielded_by (c.in-Some.site, c.in-Some.flow) c.in-Some.is c.next.ensures.steps in
+    let there : s.reach < length c.loop-site.list = omega (arith, ap (λ (y : Site). y.reach) (t.2 site0), c.requires.there (length c.loop-site.yielded) t.0, c.loop-site.auto.list, c.fill.auto.self) in
+    rw length_push (gathering_more s f c.loop-site.invariant t.0 t.1 (t.2 s) (t.3 f) there)

@@ -1,5 +1,6 @@
+use Rattle.std.proofs.Common.{length}
 use Rattle.basin.proofs.Flowing.{ReachesSummed}
 use Rattle.basin.proofs.sums.reach_sums.Given as goal
 
-abbrev pub invariant-loop-j : goal.invariant-loop-j
-invariant-loop-j l = ReachesSummed l.reaches l.flows l.j l.sums
+abbrev pub invariant-loop-reach : goal.invariant-loop-reach
+invariant-loop-reach l = ReachesSummed l.reaches l.flows (length l.yielded) l.sums

@@ -1,4 +1,4 @@
-use Rattle.std.proofs.Common.{◌≡◌, ◌<◌, ◌≤◌, length, get_or, refl, ap, arith}
+use Rattle.std.proofs.Common.{◌≡◌, ◌<◌, ◌≤◌, length, get_or, ap, arith, rules}
 use Rattle.weather.specs.declared.day.Day.{Day}
 use Rattle.basin.proofs.Watering.{rain_here}
 use Rattle.basin.proofs.Turning.{turning_none, turning_more}
@@ -7,8 +7,8 @@ use Rattle.basin.proofs.units.turn_units.Goals as goal
 pub loop-i-init : goal.loop-i-init
 loop-i-init g c = turning_none _ _ _ _ _
 
-pub unreachable-requires : goal.unreachable-requires
-unreachable-requires g c =
+pub unwrap-left-requires : goal.unwrap-left-requires
+unwrap-left-requires g c =
     let water = g.S.Store.water in
     let ws = c.args.weather.now in
     let i = c.loop-i.i in
@@ -20,13 +20,13 @@ unreachable-requires g c =
     let fell = rain_here ws i d there in
     let same : d.rain ≡ (get_or ws i d).rain = ap (λ (w : Day). w.rain) c.index-weather-i.is in
     let room = c.requires.room i x (omega arith) in
-    let over = c.in-Err.ensures in
-    omega arith
+    let turned = c.turn.ensures in
+    search rules
 
 pub loop-i-preserved : goal.loop-i-preserved
 loop-i-preserved g c =
-    turning_more c.index-units-i.result c.turn.new.self c.index-weather-i.result _ c.loop-i.invariant (omega arith) (omega arith) (omega arith) c.index-weather-i.is
-    (record { rain_is = refl; kept = c.in-Ok.ensures.0; turned = c.in-Ok.ensures.1 })
+    turning_more c.index-units-i.result c.turn.new.self c.index-weather-i.result c.unit_flow.result c.loop-i.invariant (omega arith) (omega arith) (omega arith) c.index-weather-i.is
+    (record { rain_is = search rules; kept = search rules; turned = search rules })
 
 pub returns : goal.returns
 returns g c = λ i z w h. c.loop-i.invariant.done i z w (omega arith)

@@ -11,11 +11,17 @@ loop-i-preserved c =
     let e = c.loop-i.e in
     let place : 13 - i ≡ 14 - (i + 1) = omega arith in
     let step : c.decay_bit-e.result ≡ decay_bit k (14 - (i + 1)) (get_or constants i 0) e = c.decay_bit-e.ensures.value ∙ ap (λ (n : ℕ). decay_bit k n (get_or constants i 0) e) place in
-    (c.decay_bit-e.ensures.bound, ap (decay_bits k (drop (i + 1) constants)) step ∙ sym (bits_more k e i constants c.loop-i-test.true) ∙ c.loop-i.invariant.1)
+    record {
+      bound = c.decay_bit-e.ensures.bound;
+      rest = ap (decay_bits k (drop (i + 1) constants)) step ∙ sym (bits_more k e i constants c.loop-i-test.true) ∙ c.loop-i.invariant.rest;
+    }
 
 pub returns : goal.returns
 unfolding decay_below
 returns c =
     let k = c.args.k in
     let e = c.loop-i.e in
-    record { value = ap (λ (l : List ℕ). decay_bits k l e) (sym (drop_all c.loop-i.i constants c.loop-i-test.false)) ∙ c.loop-i.invariant.1; bound = c.loop-i.invariant.0 }
+    record {
+      value = ap (λ (l : List ℕ). decay_bits k l e) (sym (drop_all c.loop-i.i constants c.loop-i-test.false)) ∙ c.loop-i.invariant.rest;
+      bound = c.loop-i.invariant.bound;
+    }

@@ -4,13 +4,10 @@ use Rattle.std.proofs.lemmas.Nat.{mul-le}
 use Rattle.fixed.specs.Decay.{decay_bit}
 use Rattle.fixed.proofs.decay.decay_bit.Goals as goal
 
-pub overflow_cast-result-then-k-place-eq1-3 : goal.overflow_cast-result-then-k-place-eq1-3
-overflow_cast-result-then-k-place-eq1-3 c = omega (arith, mul-le c.args.e c.args.constant 1000000000 1000000000 c.requires.1.1 c.requires.1.0)
-
 pub returns-then-k-place-eq1 : goal.returns-then-k-place-eq1
 unfolding decay_bit
-returns-then-k-place-eq1 c = record { value = grind (arith, nat_tests); bound = omega (arith, mul-le c.args.e c.args.constant 1000000000 1000000000 c.requires.1.1 c.requires.1.0) }
+returns-then-k-place-eq1 c = record { value = grind (arith, nat_tests); bound = omega (arith, mul-le c.args.e c.args.constant 1000000000 1000000000 c.requires.bounded c.requires.factor) }
 
 pub returns-else-k-place-eq1 : goal.returns-else-k-place-eq1
 unfolding decay_bit
-returns-else-k-place-eq1 c = record { value = grind (arith, nat_tests); bound = c.requires.1.1 }
+returns-else-k-place-eq1 c = record { value = grind (arith, nat_tests); bound = c.requires.bounded }

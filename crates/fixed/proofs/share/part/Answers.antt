@@ -2,10 +2,6 @@ use Rattle.std.proofs.Common.{ℕ, ◌/◌, refl, ap, arith}
 use Rattle.fixed.specs.Shares.{part_of, part_le}
 use Rattle.fixed.proofs.share.part.Goals as goal
 
-pub overflow_cast-result-in-None-4 : goal.overflow_cast-result-in-None-4
-unfolding part_of
-overflow_cast-result-in-None-4 c = omega (arith, part_le c.args.amount c.args.share c.requires)
-
 pub returns-in-Some : goal.returns-in-Some
 unfolding part_of
 returns-in-Some c =

@@ -2,10 +2,10 @@ use Rattle.std.proofs.Common.{rules}
 use Rattle.fixed.specs.Limits.{outside}
 use Rattle.sources.proofs.header.count.Goals as goal
 
-pub returns-then-count-lt1 : goal.returns-then-count-lt1
+pub returns-then-contains : goal.returns-then-contains
 unfolding outside
-returns-then-count-lt1 c = search rules
+returns-then-contains c = search rules
 
-pub returns : goal.returns
+pub returns-else-contains : goal.returns-else-contains
 unfolding outside
-returns c = search rules
+returns-else-contains c = search rules

@@ -1,16 +1,10 @@
-use Rattle.std.proofs.Common.{◌≡◌, ℕ, refl, subst}
-use Rattle.basin.specs.Calls.{then, filled, view, pour}
-use Rattle.basin.proofs.Amounts.{accepted, denied}
-use Rattle.basin.proofs.Balance.{balanced}
+use Rattle.std.proofs.Common.{Ok, rules}
+use Rattle.basin.specs.Calls.{pour}
+use Rattle.basin.proofs.Balance.{balanced_on}
 use Rattle.basin.proofs.basin.Basin.pour.Goals as goal
 
-pub returns-in-Ok : goal.returns-in-Ok
-returns-in-Ok g c =
-    let v = view c.args.self.now in
-    let s = accepted c.in-Ok.ensures.refused (subst (λ (x : ℕ). view c.fill.new.self ≡ filled c.args.reach x v) c.in-Ok.ensures.value.1 c.fill.ensures) in
-    record { step = s; balance = λ a cs h. balanced (then {call = pour c.args.reach c.args.amount _} h s) }
+pub returns-in_err-stored-clause-balance : goal.returns-in_err-stored-clause-balance
+returns-in_err-stored-clause-balance g c = balanced_on g.S.Store.water g.S.Store.turns (pour c.args.reach c.args.amount c.from_residual.result) (search rules)
 
-pub returns-in-Err : goal.returns-in-Err
-returns-in-Err g c =
-    let s = denied c.in-Err.fault c.in-Err.ensures.refused refl in
-    record { step = s; balance = λ a cs h. balanced (then {call = pour c.args.reach c.args.amount _} h s) }
+pub returns-clause-balance : goal.returns-clause-balance
+returns-clause-balance g c = balanced_on g.S.Store.water g.S.Store.turns (pour c.args.reach c.args.amount (Ok tt)) (search rules)

@@ -1,23 +1,10 @@
-use Rattle.std.proofs.Common.{arith}
-use Rattle.profile.specs.Soils.{root_of}
-use Rattle.profile.proofs.Rows.{summed_more, summed_all, summed_le}
+use Rattle.std.proofs.Common.{◌≡◌, arith, rules}
+use Rattle.profile.specs.Soils.{layers_root}
+use Rattle.profile.specs.Downward.{root_le, water_le}
 use Rattle.profile.proofs.soil.Soil.root_water.Goals as goal
 
-pub overflow_add-sum : goal.overflow_add-sum
-overflow_add-sum c =
-    let l = c.loop-layer in
-    omega (arith, summed_le root_of c.args.self.now l.layer-index l.sum l.invariant l.auto.layer-index-end, c.layer-item.result.held.1)
-
-pub loop-layer-preserved : goal.loop-layer-preserved
-loop-layer-preserved c =
-    let l = c.loop-layer in
-    summed_more root_of c.args.self.now l.layer-index l.sum c.layer-item.result l.invariant c.loop-layer-test.true c.layer-item.is (omega (arith, c.layer-item.result.held.1))
-
-pub returns : goal.returns
-returns c =
-    let l = c.loop-layer in
-    let k = c.args.self.now in
-    record {
-      value = summed_all root_of k l.layer-index l.sum l.invariant c.loop-layer-test.false;
-      bound = summed_le root_of k l.layer-index l.sum l.invariant l.auto.layer-index-end;
-    }
+pub returns-clause-bound : goal.returns-clause-bound
+returns-clause-bound c =
+    let ls = c.layers.result.now in
+    let sum : c.sum.result ≡ layers_root ls = search rules in
+    omega (arith, sum, root_le ls, water_le ls, c.layers.ensures.few)

@@ -2,8 +2,7 @@ use Rattle.std.proofs.Common.{◌-◌, ℤ, pos, ◌+ℤ◌, ◌*ℤ◌, ap, ◌
 use lib.Signed.{quot_z}
 use Rattle.snow.specs.Pack.{warmed_to}
 use Rattle.weather.proofs.Mild.{small_from, small_top, small_bottom}
-use Rattle.snow.proofs.Warm.{kept_fits, new_fits, sum_fits, next_is, next_small}
-use Rattle.snow.proofs.Melt.{pack_mild}
+use Rattle.snow.proofs.Warm.{pack_mild, kept_fits, new_fits, sum_fits, next_is, next_small}
 use Rattle.snow.proofs.pack.Pack.warmed.Goals as goal
 
 pub overflow_mul-kept : goal.overflow_mul-kept
@@ -32,5 +31,6 @@ returns c =
     let s = next_small p.lag p.temperature m p.lags (pack_mild p) sm in
     record {
       value = e ∙ ap (λ (x : ℤ). quot_z (pos (1000 - p.lag) *ℤ p.temperature +ℤ pos p.lag *ℤ x) (pos 1000)) c.mean-mean.ensures.value;
-      bound = (rw e (small_top z s), rw e (small_bottom z s));
+      most = rw e (small_top z s);
+      least = rw e (small_bottom z s);
     }

@@ -9,7 +9,7 @@ on_date-requires c =
     let p = c.args.self.now.span in
     let f = found p c.args.station c.args.index c.in_ok-date.date c.in_ok-date.ensures in
     let d = date_within p.first c.args.index in
-    (omega (arith, f.dated, d), omega (arith, f.dated, d))
+    record { first = omega (arith, f.dated, d); last = omega (arith, f.dated, d) }
 
 pub returns : goal.returns
 returns c =

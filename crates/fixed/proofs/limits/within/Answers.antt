@@ -1,0 +1,11 @@
+use Rattle.std.proofs.Common.{rules}
+use Rattle.fixed.specs.Limits.{outside}
+use Rattle.fixed.proofs.limits.within.Goals as goal
+
+pub returns-then-contains : goal.returns-then-contains
+unfolding outside
+returns-then-contains g c = search rules
+
+pub returns-else-contains : goal.returns-else-contains
+unfolding outside
+returns-else-contains g c = search rules
