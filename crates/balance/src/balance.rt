@@ -11,7 +11,7 @@ pub struct Moved {
     pub flows: Flows,
 }
 
-// What the accepted days moved together. A column's own: a balance knows no basin and no record of its units.
+// What the accepted days moved together. No record of a basin's unit: a balance knows no basin.
 #[derive(Clone, Copy, Debug, Default, PartialEq, Eq)]
 pub struct Sums {
     pub rain: u64,

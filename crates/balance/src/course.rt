@@ -73,6 +73,7 @@ pub fn run_column<S: Store, W: WeatherSource>(column: &mut S, source: &W, statio
     ensures course { Course S.Store.water S.Store.turns (W.WeatherSource.means source.now) station column.old column.new result }
     ensures balanced { Balanced result }
 {
+    // A balance answers, it does not fail; a store has one refusal.
     let Ok(start) = column.water() else {
         return Balance::stopped(Stop::Store(Overfull));
     };

@@ -1,8 +1,8 @@
--- Sums over the areas of the sites, as a loop comes to them. Assumes nothing.
+-- Sums over the areas of the sites. Assumes nothing.
 use Rattle.std.proofs.Common.{◌≡◌, ℕ, suc, ◌+◌, ◌*◌, ◌<◌, ◌≤◌, List, [], ◌∷◌, length, get_or, drop, sum_by, sym, refl, ap, ◌∙◌, mul-le-mul, arith}
 use Rattle.std.specs.List.{zip}
 use Rattle.std.proofs.lemmas.List.Sums.{sum_by-cons}
-use Rattle.std.proofs.lemmas.List.{at_drop_more, at_drop_all}
+use Rattle.std.proofs.lemmas.List.{at_drop_more}
 use Rattle.weather.specs.Meaning.{Meaning}
 use Rattle.network.specs.Records.{site0}
 use Rattle.network.specs.declared.site.Site.{Site}
@@ -15,20 +15,12 @@ use Rattle.basin.specs.Questions.{rain_at, rain_volume}
 pub at_drops : {X Y : Type 0} (F : List X → List Y → ℕ) (xs : List X) (ys : List Y) (i : ℕ) (x : X) (y : Y) → i < length xs → i < length ys → F (drop i xs) (drop i ys) ≡ F (get_or xs i x ∷ drop (i + 1) xs) (get_or ys i y ∷ drop (i + 1) ys)
 at_drops F xs ys i x y h l = at_drop_more (λ zs. F zs (drop i ys)) xs i x h ∙ at_drop_more (F (get_or xs i x ∷ drop (i + 1) xs)) ys i y l
 
--- the sum from i on is that of the place i and of those after it
-pub over_area_more : {X : Type 0} (figure : X → ℕ) (ss : List Site) (xs : List X) (i : ℕ) (s : Site) (x : X) → i < length ss → i < length xs → over_area figure (drop i ss) (drop i xs) ≡ (get_or ss i s).area * figure (get_or xs i x) + over_area figure (drop (i + 1) ss) (drop (i + 1) xs)
-over_area_more figure = at_drops (over_area figure)
-
 -- it is the sum over the pairs
 pub over_area_sum : {X : Type 0} (figure : X → ℕ) (ss : List Site) (xs : List X) → over_area figure ss xs ≡ sum_by (λ (p : Site × X). p.0.area * figure p.1) (zip ss xs)
 over_area_sum figure [] xs = refl
 over_area_sum figure (s ∷ ss) [] = refl
 over_area_sum {X} figure (s ∷ ss) (x ∷ xs) =
     ap (λ (n : ℕ). s.area * figure x + n) (over_area_sum figure ss xs) ∙ sym (sum_by-cons (λ (p : Site × X). p.0.area * figure p.1) (s, x) (zip ss xs))
-
--- after the last site there is nothing
-pub over_area_all : {X : Type 0} (figure : X → ℕ) (ss : List Site) (xs : List X) (i : ℕ) → length ss ≤ i → over_area figure (drop i ss) (drop i xs) ≡ 0
-over_area_all figure ss xs i h = at_drop_all (λ (ts : List Site). over_area figure ts (drop i xs)) ss i h
 
 -- a figure that is the source's rain at every site sums to the source's rain over the basin
 pub over_area_rain : {X : Type 0} (figure : X → ℕ) (m : Meaning) (index : ℕ) (ss : List Site) (xs : List X) → length xs ≡ length ss → ((i : ℕ) (z : X) → i < length ss → figure (get_or xs i z) ≡ rain_at m (get_or ss i site0).station index) → over_area figure ss xs ≡ rain_volume m index ss
@@ -50,7 +42,3 @@ rain_most ss ws few = let all = below ss ws in omega arith
         let one = mul-le-mul s.sized.1 w.wet in
         let rest = below ss ws in
         omega arith
-
--- a figure within a limit over the area of one site
-pub area_most : (s : Site) (x most : ℕ) → x ≤ most → s.area * x ≤ 1000000000 * most
-area_most s x most h = mul-le-mul s.sized.1 h

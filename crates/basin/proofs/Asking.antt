@@ -1,7 +1,6 @@
 -- The questions of a day, as a loop asks them. Assumes nothing.
-use Rattle.std.proofs.Common.{◌≡◌, ℕ, suc, ◌+◌, ◌<◌, ◌≤◌, List, [], ◌∷◌, length, get_or, drop, set, Some, Ok, Err, Result, sym, refl, ap, ◌∙◌, zero-add, arith}
-use Rattle.std.proofs.lemmas.List.{at_drop_all, get_or_default}
-use Rattle.refusals.specs.Refusals.{Refusal, at_place}
+use Rattle.std.proofs.Common.{◌≡◌, ℕ, suc, ◌+◌, ◌<◌, List, [], ◌∷◌, length, get_or, drop, set, Ok, Err, Result, sym, refl, ap, ◌∙◌, zero-add}
+use Rattle.std.proofs.lemmas.List.{get_or_default}
 use Rattle.refusals.specs.declared.basin.BasinFault.{BasinFault}
 use Rattle.weather.specs.Days.{figures}
 use Rattle.weather.specs.Meaning.{Meaning, asked}
@@ -11,18 +10,14 @@ use Rattle.network.specs.declared.site.Site.{Site}
 use Rattle.network.specs.declared.reach.Reach.{Reach}
 use Rattle.basin.specs.Questions.{answer_fault, site_questions, reach_questions, place_questions, demand_of}
 use Rattle.basin.specs.Tables.{or_else}
-use Rattle.basin.specs.Loops.{SitesAnswered, ReachesAnswered, KeptAt, PlacesAsked, PlacesAnswered}
+use Rattle.basin.specs.Loops.{SitesAnswered, ReachesAnswered, KeptAt, PlacesAnswered}
 use Rattle.basin.proofs.Places.{written_more}
-use Rattle.basin.proofs.Straying.{first_more, first_here}
+use Rattle.basin.proofs.Straying.{first_more}
 
 -- the places below i are answered, so that the first refusal is one of those from i on
 pub record Told {P K : Type 0} (station : P → ℕ) (kept : Day → K) (first : ℕ) (m : Meaning) (index : ℕ) (ps : List P) (i : ℕ) (ks : List K) : Type 0 where
   pub left : place_questions station first m index 0 ps ≡ place_questions station first m index i (drop i ps)
   pub told : (k : ℕ) (p : P) (z : K) → k < i → KeptAt kept m (station (get_or ps k p)) index (get_or ks k z)
-
--- before the first question
-pub told_none : {P K : Type 0} (station : P → ℕ) (kept : Day → K) (first : ℕ) (m : Meaning) (index : ℕ) (ps : List P) (ks : List K) → Told station kept first m index ps 0 ks
-told_none station kept first m index ps ks = record { left = refl; told = λ k p z h. absurd (let e : ⊥ = omega arith in e) }
 
 module _ {P K : Type 0} {station : P → ℕ} {kept : Day → K} {first : ℕ} {m : Meaning} {index : ℕ} {ps : List P} {i : ℕ} {ks : List K} (t : Told station kept first m index ps i ks) where
   -- one place more is answered
@@ -34,19 +29,6 @@ module _ {P K : Type 0} {station : P → ℕ} {kept : Day → K} {first : ℕ} {
         told = λ k p z b. written_more (λ (k : ℕ) (v : K). (p : P) → KeptAt kept m (station (get_or ps k p)) index v) ks i y l (λ k z b p. t.told k p z b)
             (λ p. record { day = w; seen = ap (λ (q : P). asked m (station q) index) (get_or_default ps i p x h) ∙ told; is = keeps }) k z b p;
       }
-
-  -- the place at i is refused: it is the first
-  pub told_here : (x : P) (e : Refusal) → i < length ps → x ≡ get_or ps i x → Err e ≡ asked m (station x) index → place_questions station first m index 0 ps ≡ Some (at_place (first + i) e)
-  told_here x e h is refused =
-      let told : asked m (station (get_or ps i x)) index ≡ Err e = sym (refused ∙ ap (λ (p : P). asked m (station p) index) is) in
-      t.left ∙ first_here (place_questions station first m index) (λ (k : ℕ) (p : P). answer_fault (first + k) (asked m (station p) index)) (λ k p qs. refl) ps i x (at_place (first + i) e) h (ap (answer_fault (first + i)) told)
-
-  -- all places are answered
-  pub told_all : length ps ≤ i → PlacesAsked station kept first m index ps ks
-  told_all h = record {
-    no_fault = t.left ∙ at_drop_all (place_questions station first m index i) ps i h;
-    told = λ k p z l. t.told k p z (omega arith);
-  }
 
 -- ---- sites and reaches
 site_questions_are : (m : Meaning) (index i : ℕ) (ss : List Site) → place_questions (λ (s : Site). s.station) 0 m index i ss ≡ site_questions m index i ss

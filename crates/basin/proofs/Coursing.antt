@@ -20,8 +20,8 @@ use Rattle.basin.specs.Tables.{State, or_else, refused_unless}
 use Rattle.basin.specs.Limits.{over_area, total, unit_fault, limit_fault, most, no_rain}
 use Rattle.basin.specs.Questions.{questions, site_rain, rain_volume}
 use Rattle.basin.specs.Day.{Moved, DayOf}
-use Rattle.basin.specs.Run.{Days, none, more, Going, ReadingsWithin, plus, nothing, sums_of, unit_plus, reach_plus, sums_over}
-use Rattle.basin.specs.Loops.{Sound, Held, Counted, UnitAtMost, ReachAtMost, SumsAtMost, SumsFit}
+use Rattle.basin.specs.Run.{Days, none, more, Going, ReadingsWithin, plus, SumsFit, nothing, sums_of, unit_plus, reach_plus, sums_over}
+use Rattle.basin.specs.Loops.{Sound, Held, Counted, UnitAtMost, ReachAtMost, SumsAtMost}
 use Rattle.basin.proofs.Refusing.{both_none, some_none}
 use Rattle.basin.proofs.Steady.{same_day, same_days, sound_same, stream_steady}
 use Rattle.basin.proofs.Conserved.{one_of, day_balance, day_rain}

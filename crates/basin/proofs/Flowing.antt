@@ -122,10 +122,6 @@ pub record Routing (rs0 : List Reach) (ds : List ℕ) (fs0 : List ReachFlow) (j 
   pub rest : (k : ℕ) → j ≤ k → get_or rs k reach0 ≡ get_or rs0 k reach0
   pub low : reach_water rs + due (drop j fs) ≤ most
 
--- no reach is routed before the first turn
-pub routing_none : (rs : List Reach) (ds : List ℕ) (fs : List ReachFlow) → reach_water rs + due fs ≤ most → Routing rs ds fs 0 rs fs
-routing_none rs ds fs h = record { arrived = λ m l. omega arith; done = λ k l. absurd (let z : ⊥ = omega arith in z); fit = λ k l. absurd (let z : ⊥ = omega arith in z); rest = λ k l. refl; low = h }
-
 module _ {rs0 : List Reach} {ds : List ℕ} {fs0 : List ReachFlow} {j : ℕ} {rs : List Reach} {fs : List ReachFlow} (t : Routing rs0 ds fs0 j rs fs) (lr : length rs ≡ length rs0) (lf : length fs ≡ length rs0) (h : j < length rs0) where
   -- the reach j is as it was
   still : (z : Reach) → get_or rs j z ≡ get_or rs0 j reach0
@@ -237,10 +233,6 @@ routing_all {rs0} {ds} {fs0} {j} {rs} {fs} t lf h k l =
 -- the sites below i are gathered, and what is left gives the rest
 pub record Gathering (ss : List Site) (fs : List UnitFlow) (i : ℕ) (list : List ReachFlow) : Type 0 where
   pub come : (j : ℕ) → j < length list → (get_or list j flow0).inflow + sides j (drop i ss) (drop i fs) ≡ sides j ss fs
-
--- no site is gathered into a list of nothing
-pub gathering_none : (ss : List Site) (fs : List UnitFlow) (list : List ReachFlow) → ((k : ℕ) → k < length list → get_or list k flow0 ≡ flow0) → Gathering ss fs 0 list
-gathering_none ss fs list clear = record { come = λ j h. let e = ap (λ y. y.inflow) (clear j h) in omega arith }
 
 -- one site more is gathered
 pub gathering_more : {ss : List Site} {fs : List UnitFlow} {i : ℕ} {list : List ReachFlow} (s : Site) (f : UnitFlow) → Gathering ss fs i list → i < length ss → i < length fs → s ≡ get_or ss i s → f ≡ get_or fs i f → s.reach < length list → Gathering ss fs (i + 1) (passed (Some s.reach) (s.area * f.side) list)

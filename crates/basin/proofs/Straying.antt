@@ -8,22 +8,12 @@ use Rattle.std.specs.Option.{option_map}
 use Rattle.refusals.specs.Refusals.{Refusal, refuse}
 use Rattle.network.specs.declared.site.Site.{Site}
 use Rattle.network.specs.declared.reach.Reach.{Reach}
-use Rattle.basin.specs.Tables.{or_else, refused_unless, stray_fault, next_fault, lies_ahead}
-
--- a test of one place, and the places after it
-pub cond_first : (b : Bool) (e : Refusal) (q : Option Refusal) → cond b q (Some e) ≡ or_else (refused_unless b e) q
-cond_first true e q = refl
-cond_first false e q = refl
+use Rattle.basin.specs.Tables.{or_else, stray_fault, next_fault, lies_ahead}
 
 -- F finds the first refusal of the places, each by t: a place that t does not refuse is passed over
 pub first_more : {X : Type 0} (F : ℕ → List X → Option Refusal) (t : ℕ → X → Option Refusal) → ((i : ℕ) (x : X) (xs : List X) → F i (x ∷ xs) ≡ or_else (t i x) (F (suc i) xs)) → (xs : List X) (i : ℕ) (z : X) → i < length xs → t i (get_or xs i z) ≡ None → F i (drop i xs) ≡ F (i + 1) (drop (i + 1) xs)
 first_more F t step xs i z h none =
     at_drop_more (F i) xs i z h ∙ (step i (get_or xs i z) (drop (i + 1) xs) ∙ (ap (λ (o : Option Refusal). or_else o (F (suc i) (drop (i + 1) xs))) none ∙ ap (λ (k : ℕ). F k (drop (i + 1) xs)) (sym (add-one i))))
-
--- and one that t refuses is the first
-pub first_here : {X : Type 0} (F : ℕ → List X → Option Refusal) (t : ℕ → X → Option Refusal) → ((i : ℕ) (x : X) (xs : List X) → F i (x ∷ xs) ≡ or_else (t i x) (F (suc i) xs)) → (xs : List X) (i : ℕ) (z : X) (e : Refusal) → i < length xs → t i (get_or xs i z) ≡ Some e → F i (drop i xs) ≡ Some e
-first_here F t step xs i z e h found =
-    at_drop_more (F i) xs i z h ∙ (step i (get_or xs i z) (drop (i + 1) xs) ∙ ap (λ (o : Option Refusal). or_else o (F (suc i) (drop (i + 1) xs))) found)
 
 -- ---- sites and reaches
 -- a test turned round

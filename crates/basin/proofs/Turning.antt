@@ -1,5 +1,5 @@
 -- The units turned in place, one after another. Assumes nothing.
-use Rattle.std.proofs.Common.{◌≡◌, ℕ, ◌+◌, ◌<◌, ◌≤◌, ◌≢◌, List, length, get_or, set, sym, refl, ◌∙◌, subst, arith, get_or-set_other, get_or-set_same, below_more}
+use Rattle.std.proofs.Common.{◌≡◌, ℕ, ◌+◌, ◌<◌, ◌≤◌, ◌≢◌, List, length, get_or, set, sym, ◌∙◌, subst, arith, get_or-set_other, get_or-set_same, below_more}
 use Rattle.std.proofs.lemmas.List.{get_or_default}
 use Rattle.weather.specs.declared.day.Day.{Day}
 use Rattle.stores.specs.declared.flows.Flows.{Flows}
@@ -11,10 +11,6 @@ use Rattle.basin.specs.Loops.{TurnedIn}
 pub record Turning {S : Type 0} (water : S → ℕ) (turns : S → ℕ → ℕ → Day → S → Flows → Type 0) (ws : List Day) (us : List S) (i : ℕ) (vs : List S) (gs : List UnitFlow) : Type 0 where
   pub done : (k : ℕ) (z : S) (w : Day) → k < i → TurnedIn water turns (get_or ws k w) (get_or us k z) (get_or vs k z) (get_or gs k unit0)
   pub rest : (k : ℕ) (z : S) → i ≤ k → get_or vs k z ≡ get_or us k z
-
--- before the first turn
-pub turning_none : {S : Type 0} (water : S → ℕ) (turns : S → ℕ → ℕ → Day → S → Flows → Type 0) (ws : List Day) (us : List S) (gs : List UnitFlow) → Turning water turns ws us 0 us gs
-turning_none water turns ws us gs = record { done = λ k z w h. absurd (let e : ⊥ = omega arith in e); rest = λ k z h. refl }
 
 -- one turn more: the unit at i with the day d of its place, and its day's record
 pub turning_more : {S : Type 0} {water : S → ℕ} {turns : S → ℕ → ℕ → Day → S → Flows → Type 0} {ws : List Day} {us : List S} {i : ℕ} {vs : List S} {gs : List UnitFlow} (x v : S) (d : Day) (g : UnitFlow) →

@@ -1,5 +1,5 @@
 -- What the steps of a day and of a run promise each other. Assumes nothing.
-use Rattle.std.specs.Prelude.{◌≡◌, ℕ, zero, suc, ◌+◌, ◌*◌, ◌^◌, ◌<◌, ◌≤◌, List, [], ◌∷◌, length, get_or, take, Some, None, Ok, Err, Option, Result, slice_index, slice_index_or, slice_set}
+use Rattle.std.specs.Prelude.{◌≡◌, ℕ, zero, suc, ◌+◌, ◌*◌, ◌<◌, ◌≤◌, List, [], ◌∷◌, length, get_or, take, Some, None, Ok, Err, Option, Result, slice_index, slice_index_or, slice_set}
 use Rattle.refusals.specs.Refusals.{Refusal, basin_refusal}
 use Rattle.refusals.specs.declared.basin.BasinFault.{BasinFault}
 use Rattle.weather.specs.Days.{figures}
@@ -77,7 +77,7 @@ pub record KeptAt {K : Type 0} (kept : Day → K) (m : Meaning) (station index :
   pub seen : asked m station index ≡ Ok (figures day)
   pub is : k ≡ kept day
 
--- the same of any places that each have a station, numbered from `first` on
+-- every question of places that each have a station, numbered from `first` on, is answered, and what is kept stands in the table
 pub record PlacesAsked {P K : Type 0} (station : P → ℕ) (kept : Day → K) (first : ℕ) (m : Meaning) (index : ℕ) (ps : List P) (ks : List K) : Type 0 where
   pub no_fault : place_questions station first m index 0 ps ≡ None
   pub told : (i : ℕ) (p : P) (k : K) → i < length ps → KeptAt kept m (station (slice_index_or ps i p)) index (slice_index_or ks i k)
@@ -191,18 +191,15 @@ pub record ReachAtMost (b : ℕ) (f : ReachFlow) : Type 0 where
   pub vapour : f.vapour ≤ b
   pub deep : f.deep ≤ b
 
+-- each record of the reaches' flow list is so
+abbrev pub EachAtMost : ℕ → List ReachFlow → Type 0
+EachAtMost b fs = (k : ℕ) → k < length fs → ReachAtMost b (slice_index_or fs k flow0)
+
 pub record SumsAtMost (b : ℕ) (x : Sums) : Type 0 where
   pub rain : x.rain ≤ b
   pub stream : x.stream ≤ b
   pub vapour : x.vapour ≤ b
   pub deep : x.deep ≤ b
-
--- each figure of the sums of both fits
-pub record SumsFit (x y : Sums) : Type 0 where
-  pub rain : x.rain + y.rain < 2 ^ 128
-  pub stream : x.stream + y.stream < 2 ^ 128
-  pub vapour : x.vapour + y.vapour < 2 ^ 128
-  pub deep : x.deep + y.deep < 2 ^ 128
 
 -- ---- a run over the tables of a basin, its flow lists cleared
 pub record Standing {S : Type 0} (e : Refusal) (a b : State S) (us us' : List UnitFlow) (rs rs' : List ReachFlow) (r : Answer) : Type 0 where

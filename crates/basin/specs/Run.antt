@@ -1,5 +1,5 @@
 -- Days accepted one after another, and what a run answers. Assumes nothing.
-use Rattle.std.specs.Prelude.{◌≡◌, ℕ, ◌+◌, ◌*◌, ◌<◌, ◌≤◌, List, [], ◌∷◌, length, Some, None, sum_by, Option, slice_index_or}
+use Rattle.std.specs.Prelude.{◌≡◌, ℕ, ◌+◌, ◌*◌, ◌^◌, ◌<◌, ◌≤◌, List, [], ◌∷◌, length, Some, None, sum_by, Option, slice_index_or}
 use Rattle.refusals.specs.Refusals.{basin_refusal}
 use Rattle.refusals.specs.declared.basin.BasinFault.{BasinFault}
 use Rattle.weather.specs.Meaning.{Meaning}
@@ -45,6 +45,13 @@ reach_sums rs fs = record { rain = 0; stream = stream_flow rs fs; vapour = sum_b
 
 abbrev pub plus : Sums → Sums → Sums
 plus x y = record { rain = x.rain + y.rain; stream = x.stream + y.stream; vapour = x.vapour + y.vapour; deep = x.deep + y.deep }
+
+-- each figure of the sums of both fits
+pub record SumsFit (x y : Sums) : Type 0 where
+  pub rain : x.rain + y.rain < 2 ^ 128
+  pub stream : x.stream + y.stream < 2 ^ 128
+  pub vapour : x.vapour + y.vapour < 2 ^ 128
+  pub deep : x.deep + y.deep < 2 ^ 128
 
 abbrev pub sums_of : List Site → List Reach → Moved → Sums
 sums_of ss rs f = plus (unit_sums ss f.units) (reach_sums rs f.reaches)

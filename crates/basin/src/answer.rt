@@ -1,12 +1,11 @@
 // What a run answers.
 ghost use Rattle.std.specs.Prelude.{◌≡◌};
-ghost use Rattle.basin.specs.Loops.{SumsFit};
-ghost use Rattle.basin.specs.Run.{plus};
+ghost use Rattle.basin.specs.Run.{SumsFit, plus};
 
 use refusals::basin::BasinFault;
 use std::ops::Add;
 
-// What the accepted days moved together, in millilitres.
+// What the accepted days moved together, in millilitres. It shares no type with the records: it has other figures.
 #[derive(Clone, Copy, Debug, PartialEq, Eq, Default)]
 pub struct Sums {
     pub rain: u128,
@@ -17,7 +16,7 @@ pub struct Sums {
     pub deep: u128,
 }
 
-// Nothing moved.
+// Nothing moved: a constant as those of the records are, which a list can be made of.
 pub const NO_SUMS: Sums = Sums {
     rain: 0,
     stream: 0,

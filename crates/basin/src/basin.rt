@@ -16,7 +16,7 @@ use stores::store::Store;
 use weather::source::WeatherSource;
 
 // The most days of a run, and the most that a pour adds or a draw takes, in millilitres.
-const DAYS: u64 = 3660;
+pub const DAYS: u64 = 3660;
 
 const AMOUNT: u64 = 1_000_000_000_000_000;
 
@@ -106,6 +106,7 @@ impl<S: Store + Copy> Basin<S> {
         ensures step { Step S.Store.water S.Store.turns (view self.old) (run (W.WeatherSource.means source.now) n unit_flows.old reach_flows.old unit_flows.new reach_flows.new result) (view self.new) }
         ensures balance { (a : View S) (cs : List Call) → History S.Store.water S.Store.turns a cs (view self.old) → Balanced S.Store.water a (run (W.WeatherSource.means source.now) n unit_flows.old reach_flows.old unit_flows.new reach_flows.new result ∷ cs) (view self.new) }
     {
+        // A run answers, it does not fail.
         if let Err(fault) = self.check_run(unit_flows.len(), reach_flows.len(), n) {
             return only_stop(fault);
         }
@@ -139,7 +140,8 @@ impl<S: Store + Copy> Basin<S> {
         Ok(self.tables.reaches[reach as usize].stored + amount)
     }
 
-    // The water that a reach holds after a draw, or the first refusal.
+    // The water that a reach holds after a draw, or the first refusal. A pour tests the limits, a draw what is stored;
+    // what else the two do they share: `check_amount` and `fill`.
     fn drawn(&self, reach: u64, amount: u64) -> Result<u64, BasinFault>
         ensures refused { refused_by result ≡ draw_fault (view self.now) reach amount }
         ensures value { Holding (view self.now) reach (stored_in (view self.now) reach - amount) result }

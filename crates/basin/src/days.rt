@@ -1,13 +1,14 @@
 // One day of a basin, and days one after another.
 ghost use Rattle.std.specs.Prelude.{◌≡◌, ℕ, ◌+◌, ◌<◌, ◌≤◌, length, Ok, slice_index_or};
+ghost use Rattle.std.specs.Result.{result_err};
 ghost use Rattle.network.specs.Records.{flow0};
 ghost use Rattle.basin.specs.Tables.{sites_of, state_of};
 ghost use Rattle.basin.specs.Day.{Today};
 ghost use Rattle.basin.specs.Limits.{most};
-ghost use Rattle.basin.specs.Loops.{AcceptedIn, Blank, Counted, ReachAtMost, SoundTables, places, readings_before};
-ghost use Rattle.basin.specs.Run.{ReadingsWithin, Ends, Going};
+ghost use Rattle.basin.specs.Loops.{AcceptedIn, Blank, Counted, EachAtMost, SoundTables, places, readings_before};
+ghost use Rattle.basin.specs.Run.{ReadingsWithin, Ends, Going, nothing};
 
-use crate::answer::{NO_SUMS, Sums};
+use crate::answer::Answer;
 use crate::limits::rain_fallen;
 use crate::questions::ask;
 use crate::routing::{gather, route};
@@ -46,15 +47,6 @@ impl Told {
     }
 }
 
-// What the days of a run came to.
-#[derive(Clone, Copy, Debug, PartialEq, Eq)]
-pub struct Course {
-    pub days: u64,
-    pub readings: u64,
-    pub sums: Sums,
-    pub stop: Option<BasinFault>,
-}
-
 impl<S: Store> Tables<S> {
     // The questions of a day, and then the limits with its rain.
     fn accept<W: WeatherSource>(
@@ -81,7 +73,7 @@ impl<S: Store> Tables<S> {
 
 impl<S: Store + Copy> Tables<S> {
     // One day: nothing turns before the last question is answered and the limits are tested.
-    // The day's lists and the count stay apart from what is told: two fields behind one `&mut` are not lent at once.
+    // The day's lists and the count stay apart from what is told: two fields behind one `&mut` are not lent at once (tried).
     fn day<W: WeatherSource>(
         &mut self,
         source: &W,
@@ -97,7 +89,7 @@ impl<S: Store + Copy> Tables<S> {
         requires few { readings.old ≤ readings_before }
         ensures sites { self.new.sites ≡ self.old.sites }
         ensures today { Today S.Store.water S.Store.turns (W.WeatherSource.means source.now) index (sites_of self.old) (state_of self.old) (state_of self.new) (record { units = unit_day.new; reaches = reach_day.new }) result }
-        ensures small { result ≡ Ok tt → (j : ℕ) → j < length reach_day.new → ReachAtMost most (slice_index_or reach_day.new j flow0) }
+        ensures small { result ≡ Ok tt → EachAtMost most reach_day.new }
         ensures counted { Counted (places self.old) readings.old readings.new result }
     {
         self.accept(source, index, told, readings)?;
@@ -108,7 +100,8 @@ impl<S: Store + Copy> Tables<S> {
         Ok(())
     }
 
-    // At most n days from the index `from` on, with their records added to the flow lists.
+    // At most n days from the index `from` on, added up in the answer and in the flow lists.
+    // The flow lists are the caller's two: a struct of two `&mut` is not lent in parts (tried).
     pub fn run_days<W: WeatherSource>(
         &mut self,
         source: &W,
@@ -116,45 +109,41 @@ impl<S: Store + Copy> Tables<S> {
         n: u64,
         unit_flows: &mut [UnitFlow],
         reach_flows: &mut [ReachFlow],
-    ) -> Course
+        answer: &mut Answer,
+    ) -> Result<(), BasinFault>
         requires sound { SoundTables self.old }
         requires blank { Blank self.old unit_flows.old reach_flows.old }
         requires few { n ≤ 3660 }
         requires early { from ≤ 4294967295 }
+        requires no_days { answer.old.days ≡ 0 }
+        requires no_readings { answer.old.readings ≡ 0 }
+        requires no_sums { answer.old.sums ≡ nothing }
         ensures sites { self.new.sites ≡ self.old.sites }
-        ensures going { Going S.Store.water S.Store.turns (W.WeatherSource.means source.now) from (sites_of self.old) (state_of self.old) (state_of self.new) unit_flows.new reach_flows.new result.days result.sums }
-        ensures ends { Ends S.Store.water (W.WeatherSource.means source.now) from n (sites_of self.old) (state_of self.new) result.days result.stop }
-        ensures asked { ReadingsWithin (places self.old) result.days result.readings }
+        ensures going { Going S.Store.water S.Store.turns (W.WeatherSource.means source.now) from (sites_of self.old) (state_of self.old) (state_of self.new) unit_flows.new reach_flows.new answer.new.days answer.new.sums }
+        ensures ends { Ends S.Store.water (W.WeatherSource.means source.now) from n (sites_of self.old) (state_of self.new) answer.new.days (result_err result) }
+        ensures asked { ReadingsWithin (places self.old) answer.new.days answer.new.readings }
+        ensures start { answer.new.start ≡ answer.old.start }
     {
         let mut told = Told::new();
         let mut unit_day = [NO_UNIT_FLOW; 1024];
         let mut reach_day = [NO_REACH_FLOW; 256];
         let unit_day = &mut unit_day[..self.sites.len()];
         let reach_day = &mut reach_day[..self.reaches.len()];
-        let mut course = Course {
-            days: 0,
-            readings: 0,
-            sums: NO_SUMS,
-            stop: None,
-        };
         // Days are counted, there is no list of them.
         for d in 0..n {
-            if let Err(fault) = self.day(
+            self.day(
                 source,
                 from + d,
                 &mut told,
                 unit_day,
                 reach_day,
-                &mut course.readings,
-            ) {
-                course.stop = Some(fault);
-                return course;
-            }
-            course.days += 1;
-            course.sums = course.sums + day_sums(&self.sites, &self.reaches, unit_day, reach_day);
+                &mut answer.readings,
+            )?;
+            answer.days += 1;
+            answer.sums = answer.sums + day_sums(&self.sites, &self.reaches, unit_day, reach_day);
             add_all(unit_flows, unit_day);
             add_all(reach_flows, reach_day);
         }
-        course
+        Ok(())
     }
 }

@@ -29,18 +29,20 @@ fn unit_water<S: Store>(sites: &[Site], units: &[S], weather: &[Day]) -> Result<
     ensures small { AtMost area_sums_most result }
 {
     let mut sum: u128 = 0;
-    for (i, unit) in units.iter().enumerate() {
+    // Weather by index: before the first day there is none, and the list is empty.
+    for (i, (site, unit)) in sites.iter().zip(units).enumerate() {
         let full = BasinFault::UnitFull(i as u64);
         let water = unit.water().map_err(|_| full)?;
         if rain_in(weather, i) > LIMIT - water {
             return Err(full);
         }
-        sum += u128::from(sites[i].area) * u128::from(water);
+        sum += u128::from(site.area) * u128::from(water);
     }
     Ok(sum)
 }
 
-// What the reaches hold. Here and in the other sums a list's length bounds the sum, so each asks for it.
+// What the reaches hold, in millilitres.
+// Here and in the other sums a list's length bounds the sum, so each asks for it.
 fn stored_water(reaches: &[Reach]) -> u128
     requires { length reaches.now ≤ 256 }
     ensures value { result ≡ reach_water reaches.now }

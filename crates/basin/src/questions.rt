@@ -86,6 +86,7 @@ pub fn ask<W: WeatherSource, P: Gauged>(
     ensures asked { PlacesAnswered P.gauge P.kept P.FIRST (W.WeatherSource.means source.now) index places.now list.new result }
     ensures counted { Counted (length places.now) readings.old readings.new result }
 {
+    // The index gives a refusal its place, so it serves for the list too.
     for (i, place) in places.iter().enumerate() {
         *readings += 1;
         let number = P::FIRST + i as u64;

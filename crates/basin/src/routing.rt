@@ -65,6 +65,7 @@ pub fn route(reaches: &mut [Reach], demands: &[u32], list: &mut [ReachFlow])
     ensures fits { (j : ℕ) → j < length reaches.old → (get_or reaches.old j reach0).stored + (get_or list.new j flow0).inflow ≤ most }
     ensures routed { (j : ℕ) → j < length reaches.old → ReachDay ((get_or list.old j flow0).inflow + arriving j reaches.old list.new) (slice_index demands.now j) (slice_index_or reaches.old j reach0) (slice_index_or reaches.new j reach0) (slice_index_or list.new j flow0) }
 {
+    // A reach further on is written too, so each is found by its index.
     for (j, demand) in demands.iter().enumerate() {
         let next = reaches[j].channel.next;
         let flow = route_one(&mut reaches[j], list[j].inflow, *demand);

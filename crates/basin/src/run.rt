@@ -44,14 +44,15 @@ impl<S: Store + Copy> Tables<S> {
             Ok(water) => water,
             Err(fault) => return only_stop(fault),
         };
-        let course = self.run_days(source, from as u64, n, unit_flows, reach_flows);
-        Answer {
-            days: course.days,
-            readings: course.readings,
-            sums: course.sums,
+        let mut answer = Answer {
             start,
-            end: self.check_limits(&[], 0).unwrap(),
-            stop: course.stop,
-        }
+            ..Answer::default()
+        };
+        answer.stop = self
+            .run_days(source, from as u64, n, unit_flows, reach_flows, &mut answer)
+            .err();
+        // Accepted days keep the limits.
+        answer.end = self.check_limits(&[], 0).unwrap();
+        answer
     }
 }

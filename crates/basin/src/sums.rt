@@ -2,7 +2,7 @@
 ghost use Rattle.std.specs.Prelude.{◌≡◌, ℕ, ◌<◌, ◌≤◌, length, slice_index_or};
 ghost use Rattle.network.specs.Records.{flow0};
 ghost use Rattle.basin.specs.Limits.{most};
-ghost use Rattle.basin.specs.Loops.{ReachAtMost, SumsAtMost, day_sums_most, reach_sums_most, unit_sums_most};
+ghost use Rattle.basin.specs.Loops.{EachAtMost, SumsAtMost, day_sums_most, reach_sums_most, unit_sums_most};
 ghost use Rattle.basin.specs.Run.{leaving, reach_sums, sums_of, unit_sums};
 
 use crate::answer::{NO_SUMS, Sums};
@@ -17,6 +17,7 @@ pub fn add_all<F: Copy + Add<Output = F>>(list: &mut [F], day: &[F])
     requires small { (k : ℕ) (d : F) → k < length list.old → F.can_add (slice_index_or list.old k d) (slice_index_or day.now k d) }
     ensures { (k : ℕ) (d : F) → k < length list.old → F.add_gives (slice_index_or list.old k d) (slice_index_or day.now k d) (slice_index_or list.new k d) }
 {
+    // By index: after a zip with the day a proof knows the list's length and no more (tried).
     for (i, record) in list.iter_mut().enumerate() {
         *record = *record + day[i];
     }
@@ -50,7 +51,7 @@ fn leaves(next: Option<u8>, outflow: u128) -> u128
 fn reach_sums(reaches: &[Reach], flows: &[ReachFlow]) -> Sums
     requires long { length flows.now ≡ length reaches.now }
     requires few { length reaches.now ≤ 256 }
-    requires small { (k : ℕ) → k < length flows.now → ReachAtMost most (slice_index_or flows.now k flow0) }
+    requires small { EachAtMost most flows.now }
     ensures value { result ≡ reach_sums reaches.now flows.now }
     ensures small { SumsAtMost reach_sums_most result }
 {
@@ -69,7 +70,7 @@ pub fn day_sums(sites: &[Site], reaches: &[Reach], units: &[UnitFlow], flows: &[
     requires few { length sites.now ≤ 1024 }
     requires long_reaches { length flows.now ≡ length reaches.now }
     requires few_reaches { length reaches.now ≤ 256 }
-    requires small { (k : ℕ) → k < length flows.now → ReachAtMost most (slice_index_or flows.now k flow0) }
+    requires small { EachAtMost most flows.now }
     ensures value { result ≡ sums_of sites.now reaches.now (record { units = units.now; reaches = flows.now }) }
     ensures small { SumsAtMost day_sums_most result }
 {

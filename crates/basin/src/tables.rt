@@ -1,4 +1,4 @@
-// Whether the tables of a basin fit together.
+// The tables of a basin, and whether they fit together.
 ghost use Rattle.std.specs.Prelude.{◌≡◌, ◌≤◌, true, not, length, nat_le};
 ghost use Rattle.std.specs.List.{enumerate_from, position};
 ghost use Rattle.basin.specs.Tables.{areas, lengths_fit, lies_ahead, refused_by, tables_fault};
@@ -65,6 +65,7 @@ fn total_area(sites: &[Site]) -> u64
 }
 
 // The first fault of the tables; `fit` says whether their lengths go together.
+// That is the caller's to say: a run asks it of its flow lists too.
 #[tactic(auto, using(crate::proofs::Straying::stray_first, crate::proofs::Straying::next_first))]
 pub fn check_tables(fit: bool, sites: &[Site], reaches: &[Reach]) -> Result<(), BasinFault>
     requires { fit ≡ true → length sites.now ≤ 1024 }

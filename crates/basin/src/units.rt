@@ -29,7 +29,9 @@ pub fn turn_units<S: Store + Copy>(units: &mut [S], weather: &[Day], flows: &mut
     requires room { (i : ℕ) (z : S) → i < length units.old → S.Store.water (slice_index_or units.old i z) + rain_in weather.now i ≤ limit }
     ensures { (i : ℕ) (z : S) (w : Day) → i < length units.old → TurnedIn S.Store.water S.Store.turns (slice_index_or weather.now i w) (slice_index_or units.old i z) (slice_index_or units.new i z) (slice_index_or flows.new i unit0) }
 {
+    // By index: two lists are written in step, and a proof follows what is written so.
     for (i, day) in weather.iter().enumerate() {
+        // The limits were tested before anything turned.
         let left = units[i].turn(day.rain, day.demand, day).unwrap();
         flows[i] = unit_flow(day.rain, left);
     }

@@ -9,6 +9,7 @@ pub mod tests {
     use stores::store::Store;
     use weather::source::WeatherSource;
 
+    // Three short words stand in other test crates too, since none sees another's tests: a refusal, a site, a balance.
     // The number and the values of a refusal, if there is one.
     pub type Refusal = Option<(u32, Values)>;
 
@@ -16,7 +17,17 @@ pub mod tests {
         fault.map(|fault| (fault.number(), fault.values()))
     }
 
-    #[derive(Clone, Copy, PartialEq)]
+    // A unit passes its limit, or the basin does.
+    pub const UNIT_0: Refusal = Some((58, Values::One(0)));
+
+    pub const UNIT_1: Refusal = Some((58, Values::One(1)));
+
+    pub const BASIN: Refusal = Some((59, Values::One(0)));
+
+    // The limit of a basin, in millilitres.
+    pub const FULL: u64 = 1_000_000_000_000_000_000;
+
+    #[derive(Clone, Copy, Debug, PartialEq, Eq)]
     pub struct Told {
         // Days, readings, start and end.
         pub figures: [u128; 4],

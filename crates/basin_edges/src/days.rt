@@ -2,11 +2,10 @@
 #[cfg(test)]
 mod tests {
     use crate::answers::tests::{REACH, Told, UNIT, balances, run};
-    use crate::valleys::tests::{held, rock, valley};
+    use crate::valleys::tests::{held, rock, share, valley};
     use basin::basin::Basin;
     use columns::SoilColumn;
     use fixed::shape::Shape;
-    use fixed::share::Share;
     use network::reach::Reach;
     use network::site::Site;
     use profile::layer::Layer;
@@ -112,25 +111,17 @@ mod tests {
     fn soil(snow: u32) -> SoilColumn {
         let aquifer = Aquifer {
             water: 50_000,
-            deep: Share {
-                millionths: 100_000,
-            },
+            deep: share(100_000),
             threshold: 40_000,
-            recession: Share { millionths: 50_000 },
+            recession: share(50_000),
         };
         let layer = Layer {
             wilting: 100_000,
             capacity: 300_000,
             water: 350_000,
-            percolation: Share {
-                millionths: 400_000,
-            },
-            lateral: Share {
-                millionths: 100_000,
-            },
-            demand: Share {
-                millionths: 500_000,
-            },
+            percolation: share(400_000),
+            lateral: share(100_000),
+            demand: share(500_000),
         };
         let retention = Retention {
             greatest: 50_000,

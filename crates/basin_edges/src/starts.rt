@@ -1,7 +1,9 @@
 // Runs of no days, and runs refused before their first: 56, 58 and 59.
 #[cfg(test)]
 mod tests {
-    use crate::answers::tests::{Refusal, SEVENS, Told, ZEROS, refusal, run};
+    use crate::answers::tests::{
+        BASIN, FULL, Refusal, SEVENS, Told, UNIT_0, UNIT_1, ZEROS, refusal, run,
+    };
     use crate::valleys::tests::{tally, valley};
     use basin::basin::Basin;
     use refusals::values::Values::One;
@@ -11,22 +13,13 @@ mod tests {
     use strangers::half::Half;
     use strangers::steady::Steady;
 
-    const FULL: u64 = 1_000_000_000_000_000_000;
-
     // The water of units and reaches, and the number of days; the stop of the run, and the refusal of a pour of
     // nothing; the basin's water as the run tells it.
-    // A row is taken apart, not compared.
-    #[derive(Clone, Copy)]
+    #[derive(Clone, Copy, Debug, PartialEq, Eq)]
     struct Start([u32; 2], [u64; 2], u64, Refusal, Refusal, u64);
 
-    // The number of days is outside; a unit passes its limit; the basin does.
+    // The number of days is outside.
     const COUNT: Refusal = Some((56, One(0)));
-
-    const UNIT_0: Refusal = Some((58, One(0)));
-
-    const UNIT_1: Refusal = Some((58, One(1)));
-
-    const BASIN: Refusal = Some((59, One(0)));
 
     const ROWS: [Start; 13] = [
         Start([0, 0], [0, 0], 0, None, None, 0),

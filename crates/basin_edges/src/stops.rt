@@ -1,9 +1,9 @@
 // Runs that stop on a day: 57, 58 and 59; and the same run again.
 #[cfg(test)]
 mod tests {
-    use crate::answers::tests::{Refusal, Told, ZEROS, balances, run};
+    use crate::answers::tests::{BASIN, FULL, Refusal, Told, UNIT_0, UNIT_1, ZEROS, balances, run};
     use crate::valleys::tests::{held, valley};
-    use refusals::values::Values::{Four, One};
+    use refusals::values::Values::Four;
     use sources::table::WeatherTable;
     use std::alloc::{AllocError, Global};
     use std::test::Fail;
@@ -11,12 +11,9 @@ mod tests {
     use strangers::steady::Steady;
     use weather::source::WeatherSource;
 
-    const FULL: u64 = 1_000_000_000_000_000_000;
-
     // The stations of sites and reaches, the water of units and reaches, and the number of days; the days that are
     // accepted, the readings, and the stop.
-    // A row is taken apart, not compared.
-    #[derive(Clone, Copy)]
+    #[derive(Clone, Copy, Debug, PartialEq, Eq)]
     struct Stop([u8; 4], [u32; 2], [u64; 2], u64, u128, u128, Refusal);
 
     const HOME: [u8; 4] = [0; 4];
@@ -39,13 +36,6 @@ mod tests {
     const REACH_0: Refusal = Some((57, Four(1_024, 31, 1, 0)));
 
     const REACH_1: Refusal = Some((57, Four(1_025, 31, 1, 0)));
-
-    // A unit passes its limit, or the basin does.
-    const UNIT_0: Refusal = Some((58, One(0)));
-
-    const UNIT_1: Refusal = Some((58, One(1)));
-
-    const BASIN: Refusal = Some((59, One(0)));
 
     // The second unit passes its limit with a day's rain; beside it and these reaches there is room for 300.
     const TIGHT: [u32; 2] = [0, 99_999_900];

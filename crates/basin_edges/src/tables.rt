@@ -2,10 +2,9 @@
 #[cfg(test)]
 mod tests {
     use crate::answers::tests::{REACH, Refusal, UNIT, refusal};
-    use crate::valleys::tests::{held, rock, share, valley};
+    use crate::valleys::tests::{held, rock, valley};
     use basin::basin::Basin;
     use columns::RockColumn;
-    use network::channel::Channel;
     use network::flows::{ReachFlow, UnitFlow};
     use network::reach::Reach;
     use network::site::Site;
@@ -15,19 +14,16 @@ mod tests {
     use stores::store::Store;
     use strangers::steady::Steady;
 
-    // Area and reach of two sites, how many units, how many reaches, and the next of three; the refusal.
-    // A row is taken apart, not compared.
-    #[derive(Clone, Copy)]
-    struct Tables([[u32; 2]; 2], usize, usize, [u8; 3], Refusal);
+    // Area and reach of each site, how many units, and the next of each reach; the refusal.
+    #[derive(Clone, Copy, Debug, PartialEq, Eq)]
+    struct Tables(&'static [[i64; 2]], usize, &'static [Option<i64>], Refusal);
 
-    // No site, and no next reach: the first is none.
-    const NO: [u32; 2] = [0, 0];
+    // No next reach.
+    const END: Option<i64> = None;
 
-    const END: u8 = 0;
+    const WHOLE: i64 = 1_000_000_000;
 
-    const WHOLE: u32 = 1_000_000_000;
-
-    const HALF: u32 = 500_000_000;
+    const HALF: i64 = 500_000_000;
 
     // The tables' lengths disagree or are outside; the areas sum to too much.
     const LENGTHS: Refusal = Some((51, One(0)));
@@ -35,43 +31,45 @@ mod tests {
     const AREAS: Refusal = Some((54, One(0)));
 
     const ROWS: [Tables; 24] = [
-        Tables([[1, 0], NO], 1, 1, [END; 3], None),
-        Tables([NO, NO], 0, 1, [END; 3], LENGTHS),
-        Tables([NO, NO], 1, 1, [END; 3], LENGTHS),
-        Tables([[1, 0], NO], 1, 0, [END; 3], LENGTHS),
-        Tables([[1, 0], [1, 0]], 1, 1, [END; 3], LENGTHS),
-        Tables([[1, 0], NO], 2, 1, [END; 3], LENGTHS),
-        Tables([[1, 0], NO], 0, 1, [END; 3], LENGTHS),
-        Tables([[1, 0], [1, 1]], 2, 2, [1, END, END], None),
-        Tables([[1, 0], [1, 2]], 2, 2, [1, END, END], Some((52, One(1)))),
-        Tables([[1, 255], [1, 2]], 2, 2, [END; 3], Some((52, One(0)))),
-        Tables([[1, 0], NO], 1, 1, [1, END, END], Some((53, One(0)))),
-        Tables([[1, 0], NO], 1, 2, [END, 1, END], Some((53, One(1)))),
-        Tables([[1, 0], NO], 1, 3, [END, END, 1], Some((53, One(2)))),
-        Tables([[1, 0], NO], 1, 2, [2, END, END], Some((53, One(0)))),
-        Tables([[1, 2], NO], 1, 3, [2, 2, END], None),
-        Tables([[1, 0], NO], 1, 3, [1, 254, 1], Some((53, One(1)))),
-        Tables([[HALF, 0], [HALF, 0]], 2, 1, [END; 3], None),
-        Tables([[HALF, 0], [HALF + 1, 0]], 2, 1, [END; 3], AREAS),
-        Tables([[WHOLE, 0], NO], 1, 1, [END; 3], None),
-        Tables([[WHOLE, 0], [1, 0]], 2, 1, [END; 3], AREAS),
+        Tables(&[[1, 0]], 1, &[END], None),
+        Tables(&[], 0, &[END], LENGTHS),
+        Tables(&[], 1, &[END], LENGTHS),
+        Tables(&[[1, 0]], 1, &[], LENGTHS),
+        Tables(&[[1, 0], [1, 0]], 1, &[END], LENGTHS),
+        Tables(&[[1, 0]], 2, &[END], LENGTHS),
+        Tables(&[[1, 0]], 0, &[END], LENGTHS),
+        Tables(&[[1, 0], [1, 1]], 2, &[Some(1), END], None),
+        Tables(&[[1, 0], [1, 2]], 2, &[Some(1), END], Some((52, One(1)))),
+        Tables(&[[1, 255], [1, 2]], 2, &[END, END], Some((52, One(0)))),
+        Tables(&[[1, 0]], 1, &[Some(1)], Some((53, One(0)))),
+        Tables(&[[1, 0]], 1, &[END, Some(1)], Some((53, One(1)))),
+        Tables(&[[1, 0]], 1, &[END, END, Some(1)], Some((53, One(2)))),
+        Tables(&[[1, 0]], 1, &[Some(2), END], Some((53, One(0)))),
+        Tables(&[[1, 2]], 1, &[Some(2), Some(2), END], None),
+        Tables(
+            &[[1, 0]],
+            1,
+            &[Some(1), Some(254), Some(1)],
+            Some((53, One(1))),
+        ),
+        Tables(&[[HALF, 0], [HALF, 0]], 2, &[END], None),
+        Tables(&[[HALF, 0], [HALF + 1, 0]], 2, &[END], AREAS),
+        Tables(&[[WHOLE, 0]], 1, &[END], None),
+        Tables(&[[WHOLE, 0], [1, 0]], 2, &[END], AREAS),
         // Two at once: 51 and 52, 52 and 53, 52 and 54, 53 and 54.
-        Tables([[1, 1], NO], 2, 1, [END; 3], LENGTHS),
-        Tables([[1, 1], NO], 1, 1, [1; 3], Some((52, One(0)))),
-        Tables([[WHOLE, 0], [1, 3]], 2, 1, [END; 3], Some((52, One(1)))),
-        Tables([[WHOLE, 0], [1, 0]], 2, 1, [1; 3], Some((53, One(0)))),
+        Tables(&[[1, 1]], 2, &[END], LENGTHS),
+        Tables(&[[1, 1]], 1, &[Some(1)], Some((52, One(0)))),
+        Tables(&[[WHOLE, 0], [1, 3]], 2, &[END], Some((52, One(1)))),
+        Tables(&[[WHOLE, 0], [1, 0]], 2, &[Some(1)], Some((53, One(0)))),
     ];
 
-    fn channel(next: u8) -> Reach {
-        let channel = Channel {
-            next: (next != END).then_some(next),
-            station: 0,
-            outflow: share(250_000),
-            loss: 0,
-            surface: 0,
-            evaporation: share(0),
-        };
-        Reach { channel, stored: 9 }
+    // A quarter of its 9 leaves.
+    fn reach(next: Option<i64>) -> Result<Reach, Fail> {
+        Reach::new(next, 0, 9, 250_000, 0, 0, 0).map_err(|_| Fail::new("no reach"))
+    }
+
+    fn site(area: i64, reach: i64) -> Result<Site, Fail> {
+        Site::new(area, reach, 0).map_err(|_| Fail::new("no site"))
     }
 
     // The flow lists are cleared where the run is accepted, and else as before.
@@ -99,6 +97,40 @@ mod tests {
         ]
     }
 
+    // A run of so many days, and a pour into and a draw from a reach.
+    #[derive(Clone, Copy, Debug, PartialEq, Eq)]
+    struct Calls {
+        days: u64,
+        reach: u64,
+        poured: u64,
+        drawn: u64,
+    }
+
+    // The calls are answered so, with lists of these lengths, which the run leaves as it must.
+    fn answers(
+        heap: Global,
+        basin: &mut Basin<RockColumn>,
+        calls: Calls,
+        lengths: [usize; 2],
+        wanted: [Refusal; 3],
+    ) -> Result<bool, AllocError> {
+        let [units, reaches] = lengths;
+        let mut unit_list = vec![in heap; UNIT; units]?;
+        let mut reach_list = vec![in heap; REACH; reaches]?;
+        let answer = basin.run(
+            &Steady { rain: 0 },
+            calls.days,
+            unit_list.as_mut_slice(),
+            reach_list.as_mut_slice(),
+        );
+        let told = [
+            refusal(answer.stop),
+            refusal(basin.pour(calls.reach, calls.poured).err()),
+            refusal(basin.draw(calls.reach, calls.drawn).err()),
+        ];
+        Ok(told == wanted && left(answer.stop.is_none(), &unit_list, &reach_list))
+    }
+
     // All three calls are refused so, whatever else is wrong with them, and leave the basin and the lists;
     // or, where no refusal is named, none is.
     fn fits(
@@ -108,49 +140,38 @@ mod tests {
         reaches: Vec<Reach>,
         refused: Refusal,
     ) -> Result<bool, AllocError> {
-        let (site_count, reach_count) = (sites.len(), reaches.len());
+        let lengths = [sites.len(), reaches.len()];
         let columns = vec![in heap; rock(3); units]?;
-        let mut unit_list = vec![in heap; UNIT; site_count]?;
-        let mut reach_list = vec![in heap; REACH; reach_count]?;
         let mut basin = Basin::new(sites, columns, reaches);
-        let accepted = refused.is_none();
-        let (n, at, amount) = if accepted {
+        let (days, reach, amount) = if refused.is_none() {
             (0, 0, 1)
         } else {
             (3_661, 256, u64::MAX)
         };
-        let answer = basin.run(
-            &Steady { rain: 0 },
-            n,
-            unit_list.as_mut_slice(),
-            reach_list.as_mut_slice(),
-        );
-        let stops = [
-            refusal(answer.stop),
-            refusal(basin.pour(at, amount).err()),
-            refusal(basin.draw(at, amount).err()),
-        ];
+        let calls = Calls {
+            days,
+            reach,
+            poured: amount,
+            drawn: amount,
+        };
         Ok(
-            stops == [refused; 3]
-                && left(accepted, &unit_list, &reach_list)
+            answers(heap, &mut basin, calls, lengths, [refused; 3])?
                 && level(basin.units(), basin.reaches())
-                && counts(&basin) == [units, reach_count, 0],
+                && counts(&basin) == [units, lengths[1], 0],
         )
     }
 
-    fn row_fits(heap: Global, row: Tables) -> Result<bool, AllocError> {
-        let Tables(pairs, units, count, nexts, refused) = row;
+    fn row_fits(heap: Global, row: Tables) -> Result<bool, Fail> {
+        let Tables(pairs, units, nexts, refused) = row;
         let mut sites = Vec::new(heap);
         for [area, reach] in pairs {
-            if let Ok(site) = Site::new(area as i64, reach as i64, 0) {
-                sites.push(site)?;
-            }
+            sites.push(site(*area, *reach)?)?;
         }
         let mut reaches = Vec::new(heap);
-        for next in nexts.iter().take(count) {
-            reaches.push(channel(*next))?;
+        for next in nexts {
+            reaches.push(reach(*next)?)?;
         }
-        fits(heap, sites, units, reaches, refused)
+        Ok(fits(heap, sites, units, reaches, refused)?)
     }
 
     #[test]
@@ -166,15 +187,10 @@ mod tests {
         sites: usize,
         reaches: usize,
         refused: Refusal,
-    ) -> Result<bool, AllocError> {
-        let site = Site {
-            area: 976_562,
-            reach: 255,
-            station: 0,
-        };
-        let many = vec![in heap; site; sites]?;
-        let far = vec![in heap; channel(END); reaches]?;
-        fits(heap, many, sites, far, refused)
+    ) -> Result<bool, Fail> {
+        let many = vec![in heap; site(976_562, 255)?; sites]?;
+        let far = vec![in heap; reach(END)?; reaches]?;
+        Ok(fits(heap, many, sites, far, refused)?)
     }
 
     #[test]
@@ -186,47 +202,34 @@ mod tests {
     }
 
     // A run over lists of these lengths stops so; a pour and a draw have no list.
-    fn lists_fit(
-        heap: Global,
-        units: usize,
-        reaches: usize,
-        refused: Refusal,
-    ) -> Result<bool, AllocError> {
+    fn lists_fit(heap: Global, lengths: [usize; 2], refused: Refusal) -> Result<bool, AllocError> {
         let mut basin = valley(heap, [0; 4], [rock(3), rock(3)], [9, 9])?;
-        let mut unit_list = vec![in heap; UNIT; units]?;
-        let mut reach_list = vec![in heap; REACH; reaches]?;
-        let answer = basin.run(
-            &Steady { rain: 0 },
-            0,
-            unit_list.as_mut_slice(),
-            reach_list.as_mut_slice(),
-        );
-        let stops = [
-            refusal(answer.stop),
-            refusal(basin.pour(0, 2).err()),
-            refusal(basin.draw(0, 1).err()),
-        ];
+        let calls = Calls {
+            days: 0,
+            reach: 0,
+            poured: 2,
+            drawn: 1,
+        };
         Ok(
-            stops == [refused, None, None]
-                && left(refused.is_none(), &unit_list, &reach_list)
+            answers(heap, &mut basin, calls, lengths, [refused, None, None])?
                 && held(&basin) == [3, 3, 10, 9, 0],
         )
     }
 
     // Lengths of the flow lists, and the refusal.
-    const LISTS: [(usize, usize, Refusal); 6] = [
-        (2, 2, None),
-        (1, 2, LENGTHS),
-        (3, 2, LENGTHS),
-        (2, 1, LENGTHS),
-        (2, 3, LENGTHS),
-        (0, 0, LENGTHS),
+    const LISTS: [([usize; 2], Refusal); 6] = [
+        ([2, 2], None),
+        ([1, 2], LENGTHS),
+        ([3, 2], LENGTHS),
+        ([2, 1], LENGTHS),
+        ([2, 3], LENGTHS),
+        ([0, 0], LENGTHS),
     ];
 
     #[test]
     fn flow_lists(rt: HostRuntime) -> Result<(), Fail> {
-        for (units, reaches, refused) in LISTS {
-            assert!(rt; lists_fit(rt.alloc(), units, reaches, refused)?, "{units}");
+        for (lengths, refused) in LISTS {
+            assert!(rt; lists_fit(rt.alloc(), lengths, refused)?, "{lengths:?}");
         }
         Ok(())
     }

@@ -1,4 +1,6 @@
 // Basins of two sites and two reaches.
+ghost use Rattle.std.specs.Prelude.{◌≡◌, ◌≤◌};
+
 #[cfg(test)]
 pub mod tests {
     use basin::basin::Basin;
@@ -26,12 +28,15 @@ pub mod tests {
         Snowpack { pack, lower: Rock }
     }
 
-    pub fn share(millionths: u32) -> Share {
-        Share {
-            millionths: millionths.min(1_000_000),
-        }
+    // Known shares; the library's own, which may be none, is an `Option`.
+    pub fn share(millionths: u32) -> Share
+        requires { millionths ≤ 1000000 }
+        ensures { result.millionths ≡ millionths }
+    {
+        Share { millionths }
     }
 
+    // The two reaches stay two functions: their channels differ in all but the station.
     // Half of it goes on to reach 1 each day, less 100 to the deep and half of the demand on 10 square metres.
     fn upper(station: u8, stored: u64) -> Reach {
         let channel = Channel {

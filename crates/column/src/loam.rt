@@ -15,7 +15,7 @@ use stores::aquifer::Aquifer;
 use surface::retention::Retention;
 use surface::surface::Surface;
 
-// So many millionths of a whole.
+// So many millionths of a whole. The library's own answers an `Option`; these are known.
 fn share(millionths: u32) -> Share
     requires { millionths ≤ 1000000 }
     ensures { result.millionths ≡ millionths }

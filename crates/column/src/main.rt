@@ -10,6 +10,7 @@ fn main(rt: HostRuntime) -> anyhow::Result<()> {
     let mut bytes = Vec::new(rt.alloc());
     rt.stdin().read_to_end(&mut bytes)?;
     let mut column = loam();
+    // The lines are what is promised; they are printed as they are.
     for (name, number) in run_table(&mut column, &bytes).lines() {
         println!(rt; "{name} {number}")?;
     }

@@ -12,9 +12,9 @@ pub mod tests {
         answer.err().map(|fault| (fault.number(), fault.values()))
     }
 
-    // The refusal of a field with this number; no field is 0.
-    pub fn of_field(number: u32, field: u64) -> Refusal {
-        (field > 0).then_some((number, Values::One(field)))
+    // The refusal of a field with this number, if a field is refused.
+    pub fn of_field(number: u32, field: Option<u64>) -> Refusal {
+        field.map(|field| (number, Values::One(field)))
     }
 
     // The figures of a day in field order.

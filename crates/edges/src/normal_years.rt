@@ -12,20 +12,20 @@ mod tests {
     use weather::day::Day;
     use weather::source::WeatherSource;
 
-    // Stations, first day of the year, and the setting that is refused, or 0.
-    const SETTINGS: [(i64, i64, u64); 12] = [
-        (1, 1, 0),
-        (64, 365, 0),
-        (0, 1, 1),
-        (65, 1, 1),
-        (1, 0, 2),
-        (1, 366, 2),
-        (0, 0, 1),
-        (-1, 1, 1),
-        (1, -1, 2),
-        (i64::MIN, i64::MAX, 1),
-        (2, 2, 0),
-        (63, 364, 0),
+    // Stations, first day of the year, and the setting that is refused, if one is.
+    const SETTINGS: [(i64, i64, Option<u64>); 12] = [
+        (1, 1, None),
+        (64, 365, None),
+        (0, 1, Some(1)),
+        (65, 1, Some(1)),
+        (1, 0, Some(2)),
+        (1, 366, Some(2)),
+        (0, 0, Some(1)),
+        (-1, 1, Some(1)),
+        (1, -1, Some(2)),
+        (i64::MIN, i64::MAX, Some(1)),
+        (2, 2, None),
+        (63, 364, None),
     ];
 
     // Index, date and month from the first of January on.
@@ -80,7 +80,7 @@ mod tests {
     fn settings(rt: HostRuntime) {
         for (stations, first, refused) in SETTINGS {
             let made = NormalYear::new(months(), stations, first);
-            assert_eq!(rt; refusal(made), of_field(12, refused), "{refused}");
+            assert_eq!(rt; refusal(made), of_field(12, refused), "{refused:?}");
         }
     }
 

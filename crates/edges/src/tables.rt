@@ -4,36 +4,36 @@ ghost use Rattle.std.specs.Prelude.{◌+◌, ◌≤◌, length};
 #[cfg(test)]
 mod tests {
     use crate::answers::tests::{Refusal, figures, refusal};
-    use refusals::values::Values;
+    use refusals::values::Values::{One, Two};
     use refusals::weather::WeatherFault;
     use sources::table::WeatherTable;
     use std::test::Fail;
     use weather::source::WeatherSource;
 
-    // Stations, days, first year and first date; the number and the value of the refusal, or 0.
-    const HEADERS: [([u32; 4], u32, u64); 22] = [
-        ([2, 1, 2000, 100], 0, 0),
-        ([1, 2, 2000, 100], 0, 0),
-        ([0, 1, 2000, 100], 22, 1),
-        ([64, 1, 2000, 100], 23, 0),
-        ([65, 1, 2000, 100], 22, 1),
-        ([2, 0, 2000, 100], 22, 2),
-        ([2, 36_500, 2000, 100], 23, 0),
-        ([2, 36_501, 2000, 100], 22, 2),
-        ([2, 1, 0, 100], 22, 3),
-        ([2, 1, 1, 100], 0, 0),
-        ([2, 1, 9_999, 100], 0, 0),
-        ([2, 1, 10_000, 100], 22, 3),
-        ([2, 1, 2000, 0], 22, 4),
-        ([2, 1, 2000, 1], 0, 0),
-        ([2, 1, 2000, 365], 0, 0),
-        ([2, 1, 2000, 366], 22, 4),
-        ([0, 0, 0, 0], 22, 1),
-        ([u32::MAX, u32::MAX, u32::MAX, u32::MAX], 22, 1),
-        ([63, 1, 2000, 100], 23, 0),
-        ([2, 36_499, 2000, 100], 23, 0),
-        ([2, 1, 2, 2], 0, 0),
-        ([2, 1, 9_998, 364], 0, 0),
+    // Stations, days, first year and first date; the refusal.
+    const HEADERS: [([u32; 4], Refusal); 22] = [
+        ([2, 1, 2000, 100], None),
+        ([1, 2, 2000, 100], None),
+        ([0, 1, 2000, 100], Some((22, One(1)))),
+        ([64, 1, 2000, 100], Some((23, One(0)))),
+        ([65, 1, 2000, 100], Some((22, One(1)))),
+        ([2, 0, 2000, 100], Some((22, One(2)))),
+        ([2, 36_500, 2000, 100], Some((23, One(0)))),
+        ([2, 36_501, 2000, 100], Some((22, One(2)))),
+        ([2, 1, 0, 100], Some((22, One(3)))),
+        ([2, 1, 1, 100], None),
+        ([2, 1, 9_999, 100], None),
+        ([2, 1, 10_000, 100], Some((22, One(3)))),
+        ([2, 1, 2000, 0], Some((22, One(4)))),
+        ([2, 1, 2000, 1], None),
+        ([2, 1, 2000, 365], None),
+        ([2, 1, 2000, 366], Some((22, One(4)))),
+        ([0, 0, 0, 0], Some((22, One(1)))),
+        ([u32::MAX, u32::MAX, u32::MAX, u32::MAX], Some((22, One(1)))),
+        ([63, 1, 2000, 100], Some((23, One(0)))),
+        ([2, 36_499, 2000, 100], Some((23, One(0)))),
+        ([2, 1, 2, 2], None),
+        ([2, 1, 9_998, 364], None),
     ];
 
     fn put<const N: usize>(bytes: &mut [u8], place: usize, part: [u8; N])
@@ -53,69 +53,64 @@ mod tests {
         put(bytes, 16, size.to_le_bytes());
     }
 
-    // The refusal of bytes with this number and value, if there is one.
-    fn of_bytes(number: u32, value: u64) -> Refusal {
-        (number > 0).then_some((number, Values::One(value)))
-    }
-
     #[test]
     fn headers(rt: HostRuntime) {
-        for (counts, number, value) in HEADERS {
+        for (counts, refused) in HEADERS {
             let mut bytes = [0; 44];
             put_header(&mut bytes, counts, 44);
             let opened = WeatherTable::open(&bytes);
-            assert_eq!(rt; refusal(opened), of_bytes(number, value), "{number}");
+            assert_eq!(rt; refusal(opened), refused, "{refused:?}");
         }
     }
 
-    // The length field, how many bytes there are, and the number and the value of the refusal.
-    const LENGTHS: [(u32, usize, u32, u64); 8] = [
-        (44, 44, 0, 0),
-        (43, 44, 21, 44),
-        (43, 43, 23, 0),
-        (20, 20, 23, 0),
-        (44, 20, 21, 20),
-        (19, 19, 21, 19),
-        (20, 21, 21, 21),
-        (0, 0, 21, 0),
+    // The length field, how many bytes there are, and the refusal.
+    const LENGTHS: [(u32, usize, Refusal); 8] = [
+        (44, 44, None),
+        (43, 44, Some((21, One(44)))),
+        (43, 43, Some((23, One(0)))),
+        (20, 20, Some((23, One(0)))),
+        (44, 20, Some((21, One(20)))),
+        (19, 19, Some((21, One(19)))),
+        (20, 21, Some((21, One(21)))),
+        (0, 0, Some((21, One(0)))),
     ];
 
     #[test]
     fn lengths(rt: HostRuntime) {
-        for (size, count, number, value) in LENGTHS {
+        for (size, count, refused) in LENGTHS {
             let mut bytes = [0; 44];
             put_header(&mut bytes, [2, 1, 2000, 100], size);
             let opened = WeatherTable::open(&bytes[..count.min(44)]);
-            assert_eq!(rt; refusal(opened), of_bytes(number, value), "{count}");
+            assert_eq!(rt; refusal(opened), refused, "{count}");
         }
     }
 
-    // A record in field order; it is taken apart, not compared.
-    #[derive(Clone, Copy)]
+    // A record in field order.
+    #[derive(Clone, Copy, Debug, PartialEq, Eq)]
     struct Record(u32, i16, i16, u32);
 
     const CALM: Record = Record(5_000, 1_000, 400, 300);
 
     const MISSING: Record = Record(u32::MAX, 32_767, -32_768, u32::MAX);
 
-    // A record, and the number of the refusal, or 0.
-    const RECORDS: [(Record, u32); 16] = [
-        (CALM, 0),
-        (MISSING, 33),
-        (Record(u32::MAX, 0, 0, 0), 33),
-        (Record(u32::MAX - 1, 0, 0, 0), 34),
-        (Record(1_000_000, 6_000, 6_000, 50_000), 0),
-        (Record(0, -6_000, -6_000, 0), 0),
-        (Record(1_000_001, 0, 0, 0), 34),
-        (Record(0, 6_001, 0, 0), 34),
-        (Record(0, -6_001, -6_001, 0), 34),
-        (Record(0, 0, -6_001, 0), 34),
-        (Record(0, 0, 1, 0), 34),
-        (Record(0, -1, 0, 0), 34),
-        (Record(0, 0, 0, 50_001), 34),
-        (Record(0, 0, 0, u32::MAX), 34),
-        (Record(1, -5_999, -5_999, 1), 0),
-        (Record(999_999, 5_999, 5_998, 49_999), 0),
+    // A record, and the number of the refusal, if there is one.
+    const RECORDS: [(Record, Option<u32>); 16] = [
+        (CALM, None),
+        (MISSING, Some(33)),
+        (Record(u32::MAX, 0, 0, 0), Some(33)),
+        (Record(u32::MAX - 1, 0, 0, 0), Some(34)),
+        (Record(1_000_000, 6_000, 6_000, 50_000), None),
+        (Record(0, -6_000, -6_000, 0), None),
+        (Record(1_000_001, 0, 0, 0), Some(34)),
+        (Record(0, 6_001, 0, 0), Some(34)),
+        (Record(0, -6_001, -6_001, 0), Some(34)),
+        (Record(0, 0, -6_001, 0), Some(34)),
+        (Record(0, 0, 1, 0), Some(34)),
+        (Record(0, -1, 0, 0), Some(34)),
+        (Record(0, 0, 0, 50_001), Some(34)),
+        (Record(0, 0, 0, u32::MAX), Some(34)),
+        (Record(1, -5_999, -5_999, 1), None),
+        (Record(999_999, 5_999, 5_998, 49_999), None),
     ];
 
     // Station, index, and the number of the refusal, of two stations of two days.
@@ -164,19 +159,15 @@ mod tests {
         WeatherTable::open(bytes).map_err(|_| Fail::new("no table"))
     }
 
-    // The refusal of a day with this number, if there is one.
-    fn of_day(number: u32, station: u64, index: u64) -> Refusal {
-        (number > 0).then_some((number, Values::Two(station, index)))
-    }
-
     #[test]
     fn records(rt: HostRuntime) -> Result<(), Fail> {
         for (record, number) in RECORDS {
             let bytes = one_day(record);
             let told = open(&bytes)?.day(0, 0);
-            assert_eq!(rt; refusal(told), of_day(number, 0, 0), "{number}");
-            let day = (number == 0).then_some(day_of(record, 365));
-            assert_eq!(rt; told.ok().map(figures), day, "{number}");
+            let refused = number.map(|number| (number, Two(0, 0)));
+            assert_eq!(rt; refusal(told), refused, "{record:?}");
+            let day = refused.is_none().then_some(day_of(record, 365));
+            assert_eq!(rt; told.ok().map(figures), day, "{record:?}");
         }
         Ok(())
     }
@@ -204,8 +195,8 @@ mod tests {
         assert_eq!(rt; rain(0, 0), Ok((365, 5_000)));
         assert_eq!(rt; rain(1, 1), Ok((1, 5_000)));
         for (station, index, number) in QUESTIONS {
-            let told = table.day(station, index);
-            assert_eq!(rt; refusal(told), of_day(number, station, index), "{station}");
+            let told = Some((number, Two(station, index)));
+            assert_eq!(rt; refusal(table.day(station, index)), told, "{station}");
         }
         Ok(())
     }

@@ -35,6 +35,7 @@ fn decay_below(k: u32) -> u32
     ensures bound { result ≤ 1000000000 }
 {
     let mut e = ONE;
+    // The place of a constant names its bit.
     for (i, constant) in CONSTANTS.iter().enumerate() {
         e = decay_bit(k, 13 - i as u32, *constant, e);
     }

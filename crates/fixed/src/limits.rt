@@ -21,6 +21,7 @@ fn within<T: TryFrom<i64, Error = TryFromIntError>>(
     }
 }
 
+// The three that others call: each promises its own kind of number.
 // A value as a natural number, unless it is under the least or over the greatest.
 pub fn natural(value: i64, least: u32, greatest: u32) -> Option<u32>
     ensures { NaturalIn least greatest value result }

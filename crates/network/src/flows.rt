@@ -22,7 +22,7 @@ pub struct ReachFlow {
     pub deep: u128,
 }
 
-// Nothing flows.
+// Nothing flows. Constants, which a list can be made of; `default` is no constant.
 pub const NO_UNIT_FLOW: UnitFlow = UnitFlow {
     rain: 0,
     side: 0,

@@ -1,10 +1,10 @@
 -- The loop over the layers of soil. Assumes nothing.
 use Rattle.std.specs.Prelude.{◌≡◌, ℕ, ◌+◌, ◌*◌, ◌<◌, ◌≤◌, List, [], ◌∷◌, ◌++◌, length, get_or, take, drop, slice_set, refl}
 use Rattle.std.proofs.Common.{sym, ap, subst, ◌∙◌, arith, length-drop}
-use Rattle.std.proofs.lemmas.List.{take_more, take_more_set, drop-set-lt, drop_more}
-use Rattle.std.proofs.lemmas.List.Sums.{sum_by-cons, sum_by_push, sum_by_more_le}
+use Rattle.std.proofs.lemmas.List.{take_more, take_more_set, take-take, drop-take, drop-set-lt, drop_more}
+use Rattle.std.proofs.lemmas.List.Sums.{sum_by-cons, sum_by_push, sum_by-take-drop, sum_by-take-le, sum_by_more_le}
 use Rattle.profile.specs.Layers.{LayerTurn, through}
-use Rattle.profile.specs.Soils.{LayersTurn, through_all, water_of, root_of, layers_root, layers_water}
+use Rattle.profile.specs.Soils.{LayersTurn, RowTurn, through_all, water_of, root_of, layers_root, layers_water}
 use Rattle.profile.specs.declared.layer.Layer.{Layer}
 use Rattle.profile.specs.declared.descent.Descent.{Descent}
 use Rattle.profile.specs.Seeping.{layer_balance}
@@ -39,12 +39,12 @@ module _ (ls ms : List Layer) (above r : Descent) (i : ℕ) (d : Layer) (p : Dow
   here = cc heads
 
   -- that layer, with what comes down to it, holds no more than all did
-  pub down_room : layers_water ls + above.seepage + above.side + above.vapour ≤ 100000000 → (get_or ms i d).water + r.seepage + r.side + r.vapour ≤ 100000000
-  down_room room = omega (arith, p.balance, room, ap water_of here, sum_by_more_le water_of ls i d there)
+  pub here_room : layers_water ls + above.seepage + above.side + above.vapour ≤ 100000000 → (get_or ms i d).water + r.seepage + r.side + r.vapour ≤ 100000000
+  here_room room = omega (arith, p.balance, room, ap water_of here, sum_by_more_le water_of ls i d there)
 
   -- a layer more has turned
-  pub down_more : (m : Layer) (s : Descent) → LayerTurn (get_or ms i d) r m → s ≡ through (get_or ms i d) r → s.vapour + s.demand ≤ r.vapour + r.demand → Down ls (slice_set ms i m) above s (i + 1)
-  down_more m s turned passed drunk =
+  pub here_more : (m : Layer) (s : Descent) → LayerTurn (get_or ms i d) r m → s ≡ through (get_or ms i d) r → s.vapour + s.demand ≤ r.vapour + r.demand → Down ls (slice_set ms i m) above s (i + 1)
+  here_more m s turned passed drunk =
       let l = get_or ms i d in
       let old : take (i + 1) ls ≡ take i ls ++ (l ∷ []) = take_more ls i d there ∙ ap (λ (x : Layer). take i ls ++ (x ∷ [])) here in
       let new : take (i + 1) (slice_set ms i m) ≡ take i ms ++ (m ∷ []) = take_more_set ms i m h in
@@ -57,6 +57,30 @@ module _ (ls ms : List Layer) (above r : Descent) (i : ℕ) (d : Layer) (p : Dow
         balance = omega (arith, kept, p.balance, ap layers_water old ∙ sum_by_push water_of (take i ls) l, ap layers_water new ∙ sum_by_push water_of (take i ms) m);
         drunk = omega (arith, drunk, p.drunk);
       }
+
+-- ---- the same, where one row at a time turns and is named by its place
+-- one row more, whether or not there is one
+front_more : (ms : List Layer) (i : ℕ) → layers_water (take (i + 1) ms) ≡ layers_water (take i ms) + layers_water (take 1 (drop i ms))
+front_more ms i =
+    sym (sum_by-take-drop water_of (take (i + 1) ms) i) ∙
+    (λ j. layers_water (take-take i (i + 1) ms (omega arith) j) + layers_water (drop-take i 1 ms j))
+
+-- the layers down to i, with what comes down to it, hold no more than all did
+pub down_room : (ls : List Layer) (n : ℕ) (above : Descent) (ms : List Layer) (r : Descent) (i : ℕ) → i < n → Down ls ms above r i → layers_water (take n ls) + above.seepage + above.side + above.vapour ≤ 100000000 → layers_water (take (i + 1) ms) + r.seepage + r.side + r.vapour ≤ 100000000
+down_room ls n above ms r i h p room =
+    let old = front_more ls i in
+    let new = front_more ms i in
+    let part = ap layers_water (sym (take-take (i + 1) n ls (omega arith))) in
+    omega (arith, p.balance, room, old, new, ap (λ (x : List Layer). layers_water (take 1 x)) p.rest, part, sum_by-take-le water_of (take n ls) (i + 1))
+
+-- a layer more has turned
+pub down_more : (ls : List Layer) (above : Descent) (ms : List Layer) (r : Descent) (i : ℕ) (ns : List Layer) (s : Descent) → Down ls ms above r i → RowTurn ms i r ns s → Down ls ns above s (i + 1)
+down_more ls above ms r i ns s p t =
+    let l = t.before in
+    let is : get_or ms i l ≡ l = t.before_is l in
+    let turned : LayerTurn (get_or ms i l) r t.after = subst (λ (x : Layer). LayerTurn x r t.after) (sym is) t.turned in
+    let passed : s ≡ through (get_or ms i l) r = t.passed ∙ ap (λ (x : Layer). through x r) (sym is) in
+    subst (λ (x : List Layer). Down ls x above s (i + 1)) (sym t.rows_are) (here_more ls ms above r i l p t.there t.after s turned passed t.drunk)
 
 -- root water is a part of the water
 pub root_le : (ls : List Layer) → layers_root ls ≤ layers_water ls

@@ -1,5 +1,5 @@
 -- What layers of soil do in a day, from the top down, and how one more is added. Assumes nothing.
-use Rattle.std.specs.Prelude.{◌≡◌, ℕ, ◌+◌, ◌-◌, List, [], ◌∷◌, ◌++◌, take, drop, replicate, Some, None, Ok, Err, sum_by, Option, Result, nat_le, slice_set}
+use Rattle.std.specs.Prelude.{◌≡◌, ℕ, ◌+◌, ◌-◌, ◌<◌, ◌≤◌, List, [], ◌∷◌, ◌++◌, length, take, drop, replicate, Some, None, Ok, Err, sum_by, Option, Result, nat_le, slice_index_or, slice_set}
 use Rattle.std.proofs.Common.{lit≤, lit<}
 use Rattle.fixed.specs.Limits.{first}
 use Rattle.fixed.specs.declared.share.Share.{Share}
@@ -60,6 +60,17 @@ pub record SoilTurn (k : Soil) (i d : ℕ) (k' : Soil) : Type 0 where
   pub same_count : k'.count ≡ k.count
   pub same_rest : drop k.count k'.layers.rows ≡ drop k.count k.layers.rows
   pub turned : LayersTurn (layers_of k) (entering i d) (layers_of k')
+
+-- rows of which row i has had its day
+pub record RowTurn (ls : List Layer) (i : ℕ) (r : Descent) (ms : List Layer) (s : Descent) : Type 0 where
+  pub there : i < length ls
+  pub before : Layer
+  pub after : Layer
+  pub before_is : (z : Layer) → slice_index_or ls i z ≡ before
+  pub rows_are : ms ≡ slice_set ls i after
+  pub turned : LayerTurn before r after
+  pub passed : s ≡ through before r
+  pub drunk : s.vapour + s.demand ≤ r.vapour + r.demand
 
 -- what stands in a row that no layer has yet
 abbrev pub bare_layer : Layer

@@ -10,6 +10,7 @@ pub struct Layers {
 }
 
 // The first `count` rows are the soil's layers; what lies past them means nothing. No vector: a store is copied whole.
+// Equality looks at all rows; those past the count are equal where `Profile::new` and `add` made the soil.
 #[derive(Clone, Copy, Debug, PartialEq, Eq)]
 pub struct Soil {
     pub layers: Layers,

@@ -67,11 +67,6 @@ impl Refused for BasinFault {
 fn whole(place: u64, fault: &WeatherFault) -> Values
     ensures { listed result ≡ (at_place place (weather_refusal fault.now)).values }
 {
-    let number = fault.number() as u64;
-    match fault {
-        WeatherFault::NoStation(station, index)
-        | WeatherFault::NoIndex(station, index)
-        | WeatherFault::Missing(station, index)
-        | WeatherFault::Outside(station, index) => Values::Four(place, number, *station, *index),
-    }
+    let (station, index) = fault.asked();
+    Values::Four(place, fault.number() as u64, station, index)
 }

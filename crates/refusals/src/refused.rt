@@ -4,7 +4,8 @@ ghost use Rattle.refusals.specs.Refusals.{Refusal, listed};
 
 use crate::values::Values;
 
-// Settings share no trait below this one: it would ask each kind for its meaning and its place too.
+// Each kind of setting has an impl of its own: a trait for all would ask each for its meaning and its place, which is
+// all that the impl gives but the number.
 pub trait Refused {
     ghost refusal: { Self → Refusal };
 

@@ -38,6 +38,7 @@ impl Refused for TableFault {
         Values::One(match self {
             TableFault::Length(bytes) => *bytes,
             TableFault::Header(count) => *count as u64,
+            // There is nothing more to tell.
             TableFault::Size => 0,
         })
     }

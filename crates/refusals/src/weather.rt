@@ -1,4 +1,5 @@
 // Why a weather source has no answer for a station and an index.
+ghost use Rattle.std.specs.Prelude.{◌≡◌, [], ◌∷◌};
 ghost use Rattle.refusals.specs.Refusals.{weather_refusal};
 
 use crate::refused::Refused;
@@ -11,6 +12,20 @@ pub enum WeatherFault {
     Missing(u64, u64),
     // A figure of that day is outside its limits.
     Outside(u64, u64),
+}
+
+impl WeatherFault {
+    // The station and the index that were asked.
+    pub(crate) fn asked(&self) -> (u64, u64)
+        ensures { (weather_refusal self.now).values ≡ result.0 ∷ (result.1 ∷ []) }
+    {
+        match self {
+            WeatherFault::NoStation(station, index)
+            | WeatherFault::NoIndex(station, index)
+            | WeatherFault::Missing(station, index)
+            | WeatherFault::Outside(station, index) => (*station, *index),
+        }
+    }
 }
 
 impl Refused for WeatherFault {
@@ -27,11 +42,7 @@ impl Refused for WeatherFault {
     }
 
     fn values(&self) -> Values {
-        match self {
-            WeatherFault::NoStation(station, index)
-            | WeatherFault::NoIndex(station, index)
-            | WeatherFault::Missing(station, index)
-            | WeatherFault::Outside(station, index) => Values::Two(*station, *index),
-        }
+        let (station, index) = self.asked();
+        Values::Two(station, index)
     }
 }

@@ -1,18 +1,12 @@
 -- Bytes written over a part of a buffer. Assumes nothing.
-use Rattle.std.proofs.Common.{◌≡◌, ℕ, ◌+◌, ◌≤◌, List, ◌++◌, length, take, drop, sym, refl, ap, ◌∙◌, arith, length-append}
-use borrow.Rule.Slice.PartMut.{put_mid}
+use Rattle.std.proofs.Common.{◌≡◌, ℕ, ◌+◌, ◌≤◌, List, ◌++◌, length, sym, refl, ap, ◌∙◌, arith, length-append}
 use lib.Seq.{paste}
-use Rattle.std.proofs.lemmas.List.{drop-drop}
 use Rattle.std.proofs.lemmas.List.Edits.{paste_all, paste-paste, length-paste}
 use Rattle.run_log.specs.Log.{written}
 
 -- the same by the library's word
 as_paste : (a xs : List ℕ) (at : ℕ) → paste xs at a (length a) ≡ written a at xs
 as_paste a xs at = paste_all xs at a (length a) refl
-
--- a copy into a part of the buffer
-pub written_part : (xs ys : List ℕ) (at k : ℕ) → length ys ≡ k → put_mid at k xs ys ≡ written ys at xs
-written_part xs ys at k e = ap (λ l. take at xs ++ (ys ++ l)) (drop-drop k at xs ∙ ap (λ (n : ℕ). drop (at + n) xs) (sym e))
 
 joined : (a b xs : List ℕ) (at : ℕ) → at ≤ length xs → written b (at + length a) (written a at xs) ≡ written (a ++ b) at xs
 joined a b xs at h =

@@ -14,6 +14,7 @@ use refusals::table::TableFault;
 fn number_of(stop: Option<BasinFault>) -> u32
     ensures { result ≡ stop_number stop }
 {
+    // One call of the library, as at a balance's stop: a function for both would be no shorter.
     stop.map_or(0, |fault| fault.number())
 }
 

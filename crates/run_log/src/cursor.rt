@@ -1,7 +1,4 @@
 // A buffer that is filled from its start.
-ghost use Rattle.std.specs.Prelude.{◌≡◌, ◌+◌, ◌≤◌, length, decimal};
-ghost use Rattle.run_log.specs.Log.{line_bytes, written};
-
 // No `fmt::Write`: the contract of `write!` says what is written where it succeeds, not that it succeeds.
 #[derive(Drop)]
 pub(crate) struct Cursor<'a> {
@@ -11,6 +8,10 @@ pub(crate) struct Cursor<'a> {
 }
 
 impl<'a> Cursor<'a> {
+    ghost use Rattle.std.specs.Prelude.{◌≡◌, ◌+◌, ◌≤◌, length, decimal};
+    ghost use Rattle.run_log.specs.Log.{line_bytes};
+    ghost use Rattle.run_log.specs.Cursor.{Puts};
+
     pub(crate) fn new(buffer: &'a mut [u8]) -> Cursor<'a>
         ensures same_buffer { result.buffer.ghost_name ≡ buffer.entry.ghost_name }
         ensures text { result.buffer.now ≡ buffer.old }
@@ -21,9 +22,7 @@ impl<'a> Cursor<'a> {
 
     fn put(&mut self, bytes: &[u8])
         requires { self.old.filled + length bytes.now ≤ length self.old.buffer.now }
-        ensures same_buffer { self.new.buffer.ghost_name ≡ self.old.buffer.ghost_name }
-        ensures text { self.new.buffer.now ≡ written bytes.now self.old.filled self.old.buffer.now }
-        ensures filled { self.new.filled ≡ self.old.filled + length bytes.now }
+        ensures { Puts bytes.now self.old self.new }
     {
         let end = self.filled + bytes.len();
         self.buffer[self.filled..end].copy_from_slice(bytes);
@@ -33,9 +32,7 @@ impl<'a> Cursor<'a> {
     // Puts the digits of a number, the first one first.
     fn put_number(&mut self, number: u128)
         requires { self.old.filled + length (decimal number) ≤ length self.old.buffer.now }
-        ensures same_buffer { self.new.buffer.ghost_name ≡ self.old.buffer.ghost_name }
-        ensures text { self.new.buffer.now ≡ written (decimal number) self.old.filled self.old.buffer.now }
-        ensures filled { self.new.filled ≡ self.old.filled + length (decimal number) }
+        ensures { Puts (decimal number) self.old self.new }
     {
         if number < 10 {
             self.put(&[b'0' + number as u8]);
@@ -47,9 +44,7 @@ impl<'a> Cursor<'a> {
 
     pub(crate) fn put_line(&mut self, name: &str, number: u128)
         requires { self.old.filled + length (line_bytes (name.now, number)) ≤ length self.old.buffer.now }
-        ensures same_buffer { self.new.buffer.ghost_name ≡ self.old.buffer.ghost_name }
-        ensures text { self.new.buffer.now ≡ written (line_bytes (name.now, number)) self.old.filled self.old.buffer.now }
-        ensures filled { self.new.filled ≡ self.old.filled + length (line_bytes (name.now, number)) }
+        ensures { Puts (line_bytes (name.now, number)) self.old self.new }
     {
         self.put(name.as_bytes());
         self.put(b" ");

@@ -13,6 +13,6 @@ pub struct LogFigures {
     // The water before the first day and after the last.
     pub start: u128,
     pub end: u128,
-    // The number of the refusal that stopped the run, or 0.
+    // The number of the refusal that stopped the run, or 0, as the log prints it.
     pub stop: u32,
 }

@@ -9,7 +9,7 @@ use refusals::weather::WeatherFault;
 use weather::day::Day;
 use weather::source::WeatherSource;
 
-// The weather of a day, as of another date.
+// The weather of a day, as of another date. A literal of a struct with an invariant names all fields: no `..day`.
 fn on_date(date: u16, mut day: Day) -> Day
     requires first { 1 ≤ date }
     requires last { date ≤ 365 }

@@ -5,61 +5,28 @@ mod tests {
     use crate::steady::Steady;
     use basin::answer::{Answer, Sums};
     use basin::basin::Basin;
-    use fixed::share::Share;
-    use network::channel::Channel;
     use network::flows::{NO_REACH_FLOW, NO_UNIT_FLOW};
     use network::reach::Reach;
     use network::site::Site;
-    use std::alloc::{AllocError, Global};
+    use std::alloc::Global;
     use std::test::Fail;
 
+    // A reach without a water surface.
+    fn reach(next: Option<i64>, stored: i64, outflow: i64, loss: i64) -> Result<Reach, Fail> {
+        Reach::new(next, 0, stored, outflow, loss, 0, 0).map_err(|_| Fail::new("no reach"))
+    }
+
+    fn site(area: i64, reach: i64) -> Result<Site, Fail> {
+        Site::new(area, reach, 0).map_err(|_| Fail::new("no site"))
+    }
+
     // Half of reach 0 goes to reach 1 each day, less 7 to the deep; a quarter of reach 1 leaves.
-    fn valley(heap: Global) -> Result<Basin<Half>, AllocError> {
-        let upper = Channel {
-            next: Some(1),
-            station: 0,
-            outflow: Share {
-                millionths: 500_000,
-            },
-            loss: 7,
-            surface: 0,
-            evaporation: Share { millionths: 0 },
-        };
-        // No `..upper`: the kit has none yet for a struct with a ghost field.
-        let lower = Channel {
-            next: None,
-            station: 0,
-            outflow: Share {
-                millionths: 250_000,
-            },
-            loss: 0,
-            surface: 0,
-            evaporation: Share { millionths: 0 },
-        };
-        let sites = vec![in heap;
-            Site {
-                area: 3,
-                reach: 0,
-                station: 0
-            },
-            Site {
-                area: 5,
-                reach: 1,
-                station: 0
-            },
-        ]?;
+    fn valley(heap: Global) -> Result<Basin<Half>, Fail> {
+        let sites = vec![in heap; site(3, 0)?, site(5, 1)?]?;
         let units = vec![in heap; Half { water: 10 }, Half { water: 20 }]?;
-        let reaches = vec![in heap;
-            Reach {
-                channel: upper,
-                stored: 100
-            },
-            Reach {
-                channel: lower,
-                stored: 0
-            },
-        ]?;
-        Ok(Basin::new(sites, units, reaches))
+        let upper = reach(Some(1), 100, 500_000, 7)?;
+        let lower = reach(None, 0, 250_000, 0)?;
+        Ok(Basin::new(sites, units, vec![in heap; upper, lower]?))
     }
 
     // A run of n days under 1,001 micrometres of rain a day.
@@ -82,31 +49,6 @@ mod tests {
         answer.end.wrapping_add(left) == answer.start.wrapping_add(sums.rain)
     }
 
-    // A balance of all its days, with these days, readings, rain, stream, vapour, deep, start and end.
-    fn tells(answer: &Answer, numbers: [u128; 8]) -> bool {
-        let Sums {
-            rain,
-            stream,
-            vapour,
-            deep,
-        } = answer.sums;
-        let days = answer.days as u128;
-        let readings = answer.readings as u128;
-        balances(answer)
-            && answer.stop.is_none()
-            && numbers
-                == [
-                    days,
-                    readings,
-                    rain,
-                    stream,
-                    vapour,
-                    deep,
-                    answer.start,
-                    answer.end,
-                ]
-    }
-
     // Each day 501 of 1,001 stay in a unit, and 3 x 500 and 5 x 500 come to the reaches; it rains 8 x 1,001.
     // Start: 3 x 10 + 5 x 20 + 100, and 50 poured into reach 0: 280.
     // Day 1: reach 0 has 1,650, gives 825: 7 deep, 818 on; reach 1 has 3,318, gives 829.
@@ -119,10 +61,38 @@ mod tests {
         let mut basin = valley(rt.alloc())?;
         assert!(rt; basin.pour(0, 50).is_ok());
         let first = rained(&mut basin, 2);
-        assert!(rt; tells(&first, [2, 8, 16_016, 2_365, 0, 14, 280, 13_917]));
+        let wanted = Answer {
+            days: 2,
+            readings: 8,
+            sums: Sums {
+                rain: 16_016,
+                stream: 2_365,
+                vapour: 0,
+                deep: 14,
+            },
+            start: 280,
+            end: 13_917,
+            stop: None,
+        };
+        assert_eq!(rt; first, wanted);
+        assert!(rt; balances(&first));
         assert!(rt; basin.draw(1, 608).is_ok());
         let second = rained(&mut basin, 1);
-        assert!(rt; tells(&second, [1, 4, 8_008, 1_956, 0, 7, 13_309, 19_354]));
+        let wanted = Answer {
+            days: 1,
+            readings: 4,
+            sums: Sums {
+                rain: 8_008,
+                stream: 1_956,
+                vapour: 0,
+                deep: 7,
+            },
+            start: 13_309,
+            end: 19_354,
+            stop: None,
+        };
+        assert_eq!(rt; second, wanted);
+        assert!(rt; balances(&second));
         Ok(())
     }
 }

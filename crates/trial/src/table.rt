@@ -2,7 +2,7 @@
 ghost use Rattle.basin.specs.Calls.{view};
 ghost use Rattle.trial.specs.TableRuns.{OpenOr, TableRunBy, open_fault};
 
-use basin::basin::Basin;
+use basin::basin::{Basin, DAYS};
 use network::flows::{ReachFlow, UnitFlow};
 use refusals::table::TableFault;
 use run_log::figures::LogFigures;
@@ -10,10 +10,8 @@ use sources::table::WeatherTable;
 use stores::store::Store;
 use weather::source::WeatherSource;
 
-// The longest table that is read, and the most days that are run.
+// The longest table that is read.
 const LONGEST: usize = 60_000;
-
-const DAYS: u64 = 3660;
 
 // The table, unless it is too long or the bytes are none.
 fn open(bytes: &[u8]) -> Result<WeatherTable<'_>, TableFault>

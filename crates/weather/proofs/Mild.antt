@@ -3,7 +3,6 @@ use Rattle.std.proofs.Common.{◌≡◌, ℕ, ◌+◌, ◌*◌, ◌/◌, ◌^◌
 use lib.Signed.{quot_z}
 use borrow.Author.Differences.{up, down, product_is, sum_is_lem, quot_is, neg_is, le_out, at_most_in, fits_in}
 use Rattle.std.proofs.lemmas.Nat.{mul-le}
-use Rattle.weather.specs.declared.day.Day.{Day}
 
 -- both parts of an integer are at most b
 pub record Small (b : ℕ) (a : ℤ) : Type 0 where
@@ -54,5 +53,3 @@ small_between b h l top order bottom = (
 )
 
 -- ---- a day's temperatures
-pub day_high : (w : Day) → Small 6000 w.highest
-day_high w = (small_between 6000 w.highest w.lowest w.warm w.warmer w.cold).0

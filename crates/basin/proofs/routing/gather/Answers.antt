@@ -1,14 +1,10 @@
-use Rattle.std.proofs.Common.{◌<◌, length, ap, arith, rules}
+use Rattle.std.proofs.Common.{◌<◌, length, ap, arith}
 use Rattle.std.proofs.lemmas.List.{length_push}
 use Rattle.std.proofs.lemmas.Slice.Zip.{zip_turn}
 use Rattle.network.specs.Records.{site0}
 use Rattle.network.specs.declared.site.Site.{Site}
-use Rattle.basin.proofs.Flowing.{gathering_none, gathering_more}
-use Rattle.basin.proofs.Places.{filled}
+use Rattle.basin.proofs.Flowing.{gathering_more}
 use Rattle.basin.proofs.routing.gather.Goals as goal
-
-pub loop-site-init : goal.loop-site-init
-loop-site-init c = gathering_none _ _ _ (filled _ _ _ (c.fill.ensures.after (search rules)))
 
 pub loop-site-preserved : goal.loop-site-preserved
 loop-site-preserved c =

@@ -1,11 +1,8 @@
 use Rattle.std.proofs.Common.{◌≡◌, ◌<◌, ◌≤◌, length, get_or, ap, arith, rules}
 use Rattle.weather.specs.declared.day.Day.{Day}
 use Rattle.basin.proofs.Watering.{rain_here}
-use Rattle.basin.proofs.Turning.{turning_none, turning_more}
+use Rattle.basin.proofs.Turning.{turning_more}
 use Rattle.basin.proofs.units.turn_units.Goals as goal
-
-pub loop-i-init : goal.loop-i-init
-loop-i-init g c = turning_none _ _ _ _ _
 
 pub unwrap-left-requires : goal.unwrap-left-requires
 unwrap-left-requires g c =
@@ -27,6 +24,3 @@ pub loop-i-preserved : goal.loop-i-preserved
 loop-i-preserved g c =
     turning_more c.index-units-i.result c.turn.new.self c.index-weather-i.result c.unit_flow.result c.loop-i.invariant (omega arith) (omega arith) (omega arith) c.index-weather-i.is
     (record { rain_is = search rules; kept = search rules; turned = search rules })
-
-pub returns : goal.returns
-returns g c = λ i z w h. c.loop-i.invariant.done i z w (omega arith)

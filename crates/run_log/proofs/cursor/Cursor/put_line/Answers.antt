@@ -1,10 +1,10 @@
-use Rattle.std.proofs.Common.{◌≡◌, ℕ, ◌+◌, ◌≤◌, List, [], ◌∷◌, ◌++◌, length, decimal, ap, ◌∙◌, append_assoc, arith, length-append}
-use Rattle.run_log.specs.Log.{written}
+use Rattle.std.proofs.Common.{◌≡◌, ℕ, ◌+◌, ◌≤◌, List, [], ◌∷◌, ◌++◌, length, decimal, ap, ◌∙◌, append_assoc, arith, length-append, rules}
+use Rattle.run_log.specs.Log.{line_bytes, written}
 use Rattle.run_log.proofs.Overwrites.{written_next}
 use Rattle.run_log.proofs.cursor.Cursor.put_line.Goals as goal
 
-pub returns-clause-text : goal.returns-clause-text
-returns-clause-text c =
+pub returns : goal.returns
+returns c =
     let xs = c.args.self.now.buffer.now in
     let at = c.args.self.now.filled in
     let name = c.args.name.now in
@@ -17,6 +17,11 @@ returns-clause-text c =
     let second : c.put-2.new.self.filled ≡ at + length front = omega (arith, length-append name (32 ∷ [])) in
     let three = c.put_number.ensures.text ∙ written_next front digits xs c.put-2.new.self.buffer.now at c.put-2.new.self.filled room two second in
     let third : c.put_number.new.self.filled ≡ at + length (front ++ digits) = omega (arith, length-append front digits) in
-    c.put-3.ensures.text
-    ∙ written_next (front ++ digits) (10 ∷ []) xs c.put_number.new.self.buffer.now at c.put_number.new.self.filled room three third
-    ∙ ap (λ (l : List ℕ). written l at xs) (simp append_assoc)
+    let whole : (front ++ digits) ++ (10 ∷ []) ≡ line_bytes (name, c.args.number) = simp append_assoc in
+    record {
+      same_buffer = search rules;
+      text = c.put-3.ensures.text
+          ∙ written_next (front ++ digits) (10 ∷ []) xs c.put_number.new.self.buffer.now at c.put_number.new.self.filled room three third
+          ∙ ap (λ (l : List ℕ). written l at xs) whole;
+      filled = omega (arith, third, ap length whole, length-append (front ++ digits) (10 ∷ []));
+    }
