@@ -31,12 +31,20 @@ module _ {S : Type 0} (water : S → ℕ) (turns : S → ℕ → ℕ → Day →
   days_rain none = omega arith
   days_rain (more p a) = omega (arith, days_rain p, sum_by-cons)
 
+  days_room : {s t : S} {ds : List Moved} → Days water turns m station s ds t → water s ≤ limit → water t ≤ limit
+  days_room none h = h
+  days_room (more p a) h = omega (arith, a.kept.balance, a.kept.room)
+
   module _ {s t : S} {n : ℕ} {a : Sums} (p : Going water turns m station s t n a) where
     pub going_balance : water t + a.side + a.vapour + a.deep ≡ water s + a.rain
     going_balance = omega (arith, days_balance p.days)
 
     pub going_rain : a.rain ≤ 1000000 * n
     going_rain = omega (arith, days_rain p.days)
+
+    -- the days leave room
+    pub going_room : water s ≤ limit → water t ≤ limit
+    going_room = days_room p.days
 
     -- one day more
     pub going_more : {u : S} {d : Moved} → Accepted water turns m station n t u d → Going water turns m station s u (n + 1) (added a d)

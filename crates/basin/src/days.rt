@@ -31,20 +31,11 @@ const CLEAR_DAY: Day = Day {
 };
 
 // What a source told of a day: the weather of each site, and the demand at each reach.
+// Both tables are lent, since a struct that holds them is copied as it is made.
 #[derive(Drop)]
-struct Told {
-    weather: [Day; 1024],
-    demands: [u32; 256],
-}
-
-impl Told {
-    // Nothing yet. Tables of the greatest size: a run has no heap, so that it cannot run out of one.
-    fn new() -> Told {
-        Told {
-            weather: [CLEAR_DAY; 1024],
-            demands: [0; 256],
-        }
-    }
+struct Told<'a> {
+    weather: &'a mut [Day; 1024],
+    demands: &'a mut [u32; 256],
 }
 
 impl<S: Store> Tables<S> {
@@ -53,19 +44,19 @@ impl<S: Store> Tables<S> {
         &self,
         source: &W,
         index: u64,
-        told: &mut Told,
+        weather: &mut [Day; 1024],
+        demands: &mut [u32; 256],
         readings: &mut u64,
     ) -> Result<(), BasinFault>
         requires sound { SoundTables self.now }
         requires few { readings.old ≤ readings_before }
-        ensures accepted { AcceptedIn S.Store.water (W.WeatherSource.means source.now) index self.now told.new.weather told.new.demands result }
+        ensures accepted { AcceptedIn S.Store.water (W.WeatherSource.means source.now) index self.now weather.new demands.new result }
         ensures counted { Counted (places self.now) readings.old readings.new result }
     {
-        let weather = &mut told.weather[..self.sites.len()];
+        let weather = &mut weather[..self.sites.len()];
         ask(source, index, &self.sites, weather, readings)?;
-        let demands = &mut told.demands[..self.reaches.len()];
+        let demands = &mut demands[..self.reaches.len()];
         ask(source, index, &self.reaches, demands, readings)?;
-        let weather = &told.weather[..self.sites.len()];
         self.check_limits(weather, rain_fallen(&self.sites, weather))?;
         Ok(())
     }
@@ -78,7 +69,7 @@ impl<S: Store + Copy> Tables<S> {
         &mut self,
         source: &W,
         index: u64,
-        told: &mut Told,
+        told: Told<'_>,
         unit_day: &mut [UnitFlow],
         reach_day: &mut [ReachFlow],
         readings: &mut u64,
@@ -92,10 +83,11 @@ impl<S: Store + Copy> Tables<S> {
         ensures small { result ≡ Ok tt → EachAtMost most reach_day.new }
         ensures counted { Counted (places self.old) readings.old readings.new result }
     {
-        self.accept(source, index, told, readings)?;
-        turn_units(&mut self.units, &told.weather[..self.sites.len()], unit_day);
+        let Told { weather, demands } = told;
+        self.accept(source, index, weather, demands, readings)?;
+        turn_units(&mut self.units, &weather[..self.sites.len()], unit_day);
         gather(&self.sites, unit_day, reach_day);
-        let demands = &told.demands[..self.reaches.len()];
+        let demands = &demands[..self.reaches.len()];
         route(&mut self.reaches, demands, reach_day);
         Ok(())
     }
@@ -124,7 +116,9 @@ impl<S: Store + Copy> Tables<S> {
         ensures asked { ReadingsWithin (places self.old) answer.new.days answer.new.readings }
         ensures start { answer.new.start ≡ answer.old.start }
     {
-        let mut told = Told::new();
+        // Nothing is told yet. Tables of the greatest size: a run has no heap, so that it cannot run out of one.
+        let mut weather = [CLEAR_DAY; 1024];
+        let mut demands = [0; 256];
         let mut unit_day = [NO_UNIT_FLOW; 1024];
         let mut reach_day = [NO_REACH_FLOW; 256];
         let unit_day = &mut unit_day[..self.sites.len()];
@@ -134,7 +128,10 @@ impl<S: Store + Copy> Tables<S> {
             self.day(
                 source,
                 from + d,
-                &mut told,
+                Told {
+                    weather: &mut weather,
+                    demands: &mut demands,
+                },
                 unit_day,
                 reach_day,
                 &mut answer.readings,

@@ -14,11 +14,11 @@ fn within<T: TryFrom<i64, Error = TryFromIntError>>(
     requires { least ≤ℤ value → value ≤ℤ greatest → (e : TryFromIntError) → T.try_from_gives value (Err e) → ⊥ }
     ensures { Within T.try_from_gives least greatest value result }
 {
-    if (least..=greatest).contains(&value) {
-        T::try_from(value).ok()
-    } else {
-        None
+    // By comparisons: behind a range's test the conversion tests once more.
+    if value < least || value > greatest {
+        return None;
     }
+    T::try_from(value).ok()
 }
 
 // The three that others call: each promises its own kind of number.

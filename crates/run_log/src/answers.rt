@@ -48,3 +48,19 @@ impl From<TableFault> for LogFigures {
         }
     }
 }
+
+impl LogFigures {
+    // What a run's answer tells, of an answer that is lent.
+    pub fn of(answer: &Answer) -> LogFigures
+        ensures { result ≡ told_of answer.now }
+    {
+        LogFigures::from(*answer)
+    }
+
+    // Eight zeros and the number of what refused the table, of a refusal that is lent.
+    pub fn unopened(fault: &TableFault) -> LogFigures
+        ensures { result ≡ only_number (table_refusal fault.now).number }
+    {
+        LogFigures::from(*fault)
+    }
+}

@@ -51,5 +51,3 @@ small_between b h l top order bottom = (
   small_from b h top (at_most_in (neg_ℤ (pos b)) h (omega (arith, le_out _ _ order, le_out _ _ bottom))),
   small_from b l (at_most_in l (pos b) (omega (arith, le_out _ _ order, le_out _ _ top))) bottom,
 )
-
--- ---- a day's temperatures

@@ -37,6 +37,6 @@ impl Day {
         ensures value { result ≡ mean_of self.now }
         ensures bound { (result ≤ℤ pos 6000) × (negsuc 5999 ≤ℤ result) }
     {
-        self.highest.midpoint(self.lowest)
+        (self.highest + self.lowest) / 2
     }
 }

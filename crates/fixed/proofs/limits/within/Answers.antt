@@ -2,10 +2,10 @@ use Rattle.std.proofs.Common.{rules}
 use Rattle.fixed.specs.Limits.{outside}
 use Rattle.fixed.proofs.limits.within.Goals as goal
 
-pub returns-then-contains : goal.returns-then-contains
+pub returns-then-value-least : goal.returns-then-value-least
 unfolding outside
-returns-then-contains g c = search rules
+returns-then-value-least g c = search rules
 
-pub returns-else-contains : goal.returns-else-contains
+pub returns : goal.returns
 unfolding outside
-returns-else-contains g c = search rules
+returns g c = search rules

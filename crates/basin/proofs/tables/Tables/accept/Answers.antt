@@ -13,9 +13,8 @@ returns-clause-accepted g c =
     let s = c.requires.sound in
     let lw : length c.ask.new.list ≡ length (sites_of b) = c.ask.auto.list ∙ length-take-le _ _ (omega (arith, c.len.ensures, b.sites.ok.0, s.few)) ∙ omega (arith, c.len.ensures, b.sites.ok.0) in
     let ld : length c.ask-2.new.list ≡ length (state_of b).reaches = c.ask-2.auto.list ∙ length-take-le _ _ (omega (arith, c.len-2.ensures, b.reaches.ok.0, s.few_reaches)) ∙ omega (arith, c.len-2.ensures, b.reaches.ok.0) in
-    let again : length c.ask.new.list ≡ c.len-3.result = omega (arith, c.len-3.ensures, b.sites.ok.0) in
-    let fallen = rw (c.deref-3.ensures.value, take_at c.ask.new.list _ c.len-3.result again) at c.rain_fallen.ensures.value in
-    let limits = rw (take_at c.ask.new.list _ c.len-3.result again) at c.in_ok-check_limits.ensures.0 in
+    let fallen = rw c.deref-3.ensures.value at c.rain_fallen.ensures.value in
+    let limits = c.in_ok-check_limits.ensures.0 in
     rw (take_at c.ask.new.list _ _ lw, take_at c.ask-2.new.list _ _ ld) (ready g.S.Store.water m c.args.index (sites_of b) (state_of b) c.ask.new.list c.ask-2.new.list s.many lw
     (sites_answered _ _ _ _ (Ok tt) (rw c.deref.ensures.value at c.in_ok-ask.ensures.asked)) (reaches_answered _ _ _ _ (Ok tt) (rw c.deref-2.ensures.value at c.in_ok-ask-2.ensures.asked)) c.rain_fallen.result fallen limits)
 
@@ -25,9 +24,8 @@ returns-in_err-check_limits-clause-accepted g c =
     let b = c.args.self.now in
     let s = c.requires.sound in
     let lw : length c.ask.new.list ≡ length (sites_of b) = c.ask.auto.list ∙ length-take-le _ _ (omega (arith, c.len.ensures, b.sites.ok.0, s.few)) ∙ omega (arith, c.len.ensures, b.sites.ok.0) in
-    let again : length c.ask.new.list ≡ c.len-3.result = omega (arith, c.len-3.ensures, b.sites.ok.0) in
-    let fallen = rw (c.deref-3.ensures.value, take_at c.ask.new.list _ c.len-3.result again) at c.rain_fallen.ensures.value in
-    let limits = rw (take_at c.ask.new.list _ c.len-3.result again) at c.in_err-check_limits.ensures in
+    let fallen = rw c.deref-3.ensures.value at c.rain_fallen.ensures.value in
+    let limits = c.in_err-check_limits.ensures in
     let stop = refused g.S.Store.water m c.args.index (sites_of b) (state_of b) c.ask.new.list c.ask-2.new.list s.many lw
     (sites_answered _ _ _ _ (Ok tt) (rw c.deref.ensures.value at c.in_ok-ask.ensures.asked)) (reaches_answered _ _ _ _ (Ok tt) (rw c.deref-2.ensures.value at c.in_ok-ask-2.ensures.asked)) c.rain_fallen.result fallen (basin_refusal c.in_err-check_limits.field-0.0) limits in
     search (rules, stop)

@@ -11,7 +11,7 @@ pub gather-requires-clause-small : goal.gather-requires-clause-small
 gather-requires-clause-small g c =
     let b = c.args.self.now in
     let n : c.len.result ≡ length (sites_of b) = c.len.ensures ∙ b.sites.ok.0 in
-    let long : length (take (length (sites_of b)) c.accept.new.told.weather) ≡ length (sites_of b) = grind (arith, common_steps) in
+    let long : length (take (length (sites_of b)) c.accept.new.weather) ≡ length (sites_of b) = grind (arith, common_steps) in
     let turned = rw (c.deref_mut.ensures.value, n) at c.turn_units.ensures in
     rw c.deref.ensures.value (sides_low g.S.Store.water g.S.Store.turns (g.W.WeatherSource.means c.args.source.now) c.args.index (sites_of b) b.units.items b.reaches.items _ _ c.requires.sound long c.in_ok-accept.ensures.accepted c.turn_units.new.units c.turn_units.new.flows (c.turn_units.auto.flows ∙ c.requires.unit_list) turned)
 
@@ -19,7 +19,7 @@ pub route-requires-clause-small : goal.route-requires-clause-small
 route-requires-clause-small g c =
     let b = c.args.self.now in
     let n : c.len.result ≡ length (sites_of b) = c.len.ensures ∙ b.sites.ok.0 in
-    let long : length (take (length (sites_of b)) c.accept.new.told.weather) ≡ length (sites_of b) = grind (arith, common_steps) in
+    let long : length (take (length (sites_of b)) c.accept.new.weather) ≡ length (sites_of b) = grind (arith, common_steps) in
     let turned = rw (c.deref_mut.ensures.value, n) at c.turn_units.ensures in
     let gathered = rw c.deref.ensures.value at c.gather.ensures in
     rw c.deref_mut-2.ensures.value (due_low g.S.Store.water g.S.Store.turns (g.W.WeatherSource.means c.args.source.now) c.args.index (sites_of b) b.units.items b.reaches.items _ _ c.requires.sound long c.in_ok-accept.ensures.accepted c.turn_units.new.units c.turn_units.new.flows (c.turn_units.auto.flows ∙ c.requires.unit_list) turned
@@ -30,7 +30,7 @@ returns-clause-today g c =
     let b = c.args.self.now in
     let n : c.len.result ≡ length (sites_of b) = c.len.ensures ∙ b.sites.ok.0 in
     let k : c.len-2.result ≡ length (state_of b).reaches = c.len-2.ensures ∙ b.reaches.ok.0 in
-    let long : length (take (length (sites_of b)) c.accept.new.told.weather) ≡ length (sites_of b) = grind (arith, common_steps) in
+    let long : length (take (length (sites_of b)) c.accept.new.weather) ≡ length (sites_of b) = grind (arith, common_steps) in
     let turned = rw (c.deref_mut.ensures.value, n) at c.turn_units.ensures in
     let gathered = rw c.deref.ensures.value at c.gather.ensures in
     let routed = rw (c.deref_mut-2.ensures.value, k) at c.route.ensures.routed in
