@@ -12,7 +12,7 @@ pub fn date_at(first: u16, index: u64) -> u16
     ((first.saturating_sub(1) as u64 + index % 365) % 365 + 1) as u16
 }
 
-// How many of these days lie before a date. A sum, since `filter` and `count` make a loop with a branch, twice as slow.
+// How many of these days lie before a date. A sum: `filter` and `count` make a loop with branches, three times as slow.
 fn ended_before(ends: &[u16], date: u16) -> usize
     ensures { result ≡ count_by (λ end. nat_lt end date) ends.now }
 {
